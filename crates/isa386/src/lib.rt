@@ -1,0 +1,14 @@
+//! The instructions of the 386 and their bytes.
+//!
+//! [`Ins`] has one variant for each row of the instruction table, and its operands say which form of
+//! the row it is. [`encode`] gives an instruction's bytes and [`len`] their number.
+#![tactic(auto)]
+
+mod encode;
+mod ins;
+mod row;
+
+pub use ins::{
+    ArithOp, Callee, Cond, Dest, DivideOp, Dw, Ins, Narrow, Opnd, PlainOp, ShiftOp, StackOp,
+    StringOp, Target, UnaryOp, Way, WidenOp,
+};
