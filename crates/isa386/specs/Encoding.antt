@@ -1,5 +1,5 @@
 -- The bytes of each instruction: opcode, ModRM byte, SIB byte, displacement, number.
-use Rattle.std.specs.Prelude.{ℕ, ◌+◌, ◌*◌, ℤ, List, [], ◌∷◌, ◌++◌, Option, Some, None}
+use Rattle.std.specs.Prelude.{ℕ, ◌+◌, ◌*◌, ℤ, List, [], ◌∷◌, ◌++◌, Some, None}
 use Rattle.std.specs.Int.{w8, w32, cast_unsigned}
 use Rattle.byteorder.specs.Endian.{little_bytes}
 use Rattle.isa386.specs.declared.ins.Dw.{Dw}
@@ -109,7 +109,7 @@ encoding Cltd = 0x99 ∷ []
 encoding (Shift Left rm) = 0xD3 ∷ operand 4 rm
 encoding (Shift Right rm) = 0xD3 ∷ operand 5 rm
 encoding (Shift Arithmetic rm) = 0xD3 ∷ operand 7 rm
-encoding (Set cc rm) = 0x0F ∷ (0x90 + cond_code cc) ∷ operand 0 rm
+encoding (Set c rm) = 0x0F ∷ (0x90 + cond_code c) ∷ operand 0 rm
 encoding (Widen SignedByte r rm) = 0x0F ∷ 0xBE ∷ operand r rm
 encoding (Widen SignedWord r rm) = 0x0F ∷ 0xBF ∷ operand r rm
 encoding (Widen ZeroByte r rm) = 0x0F ∷ 0xB6 ∷ operand r rm
@@ -118,8 +118,8 @@ encoding (Call (Relative d)) = 0xE8 ∷ number (cast_unsigned w32 d)
 encoding (Call (Indirect rm)) = 0xFF ∷ operand 2 rm
 encoding (Jump (Near d)) = 0xE9 ∷ number (cast_unsigned w32 d)
 encoding (Jump (Short d)) = 0xEB ∷ cast_unsigned w8 d ∷ []
-encoding (Branch cc (Near d)) = 0x0F ∷ (0x80 + cond_code cc) ∷ number (cast_unsigned w32 d)
-encoding (Branch cc (Short d)) = (0x70 + cond_code cc) ∷ cast_unsigned w8 d ∷ []
+encoding (Branch c (Near d)) = 0x0F ∷ (0x80 + cond_code c) ∷ number (cast_unsigned w32 d)
+encoding (Branch c (Short d)) = (0x70 + cond_code c) ∷ cast_unsigned w8 d ∷ []
 encoding (Plain Ret) = 0xC3 ∷ []
 encoding (Plain Leave) = 0xC9 ∷ []
 encoding (Plain Nop) = 0x90 ∷ []

@@ -1,2 +1,4 @@
 pub mod Encoding
 pub mod Row
+pub mod Parts
+pub mod Fields
