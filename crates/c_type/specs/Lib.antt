@@ -6,3 +6,4 @@ pub mod Sizes
 pub mod Members
 pub mod Cells
 pub mod Parts
+pub mod Tokens
