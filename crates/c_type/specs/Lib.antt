@@ -7,3 +7,6 @@ pub mod Members
 pub mod Cells
 pub mod Parts
 pub mod Tokens
+pub mod Bytes
+pub mod Pieces
+pub mod Falls
