@@ -1,0 +1,16 @@
+//! The trees of the C language: as they are read from a text, and with their types.
+#![tactic(auto)]
+
+// Trees as they are read, one variant for each production.
+mod decl;
+mod expr;
+mod stmt;
+mod unit;
+
+pub use decl::{
+    Declr, En, FileSpecs, Init, Item, LocalDecl, LocalSpecs, Mem, ParDecl, Storage, TagDef,
+    TagSpec, Types,
+};
+pub use expr::{AssignOp, BinaryOp, Expr, StepOp, TagRef, TypeName, TypeSpec, UnaryOp};
+pub use stmt::{Block, Stmt, SwItem};
+pub use unit::{Ext, Unit};
