@@ -1,0 +1,3 @@
+pub mod Of
+mod ExprRows
+mod UnitRows
