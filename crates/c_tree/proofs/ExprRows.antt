@@ -1,5 +1,5 @@
 -- Worked expressions: the tree that each of these texts spells.
-use Rattle.std.proofs.Common.{List, [], ◌∷◌, Some, None, true, false, refl, lit≤, lit<, codes}
+use Rattle.std.proofs.Common.{[], ◌∷◌, true, false, refl, lit≤, lit<, codes}
 use Rattle.c_type.specs.Names.{Name}
 use Rattle.c_type.specs.declared.Kind.TheVariants as kinds
 use Rattle.c_type.specs.declared.TagKind.TheVariants.{Struct, Enum}
@@ -9,7 +9,7 @@ use Rattle.c_tree.specs.declared.expr.BinaryOp.TheVariants as b
 use Rattle.c_tree.specs.declared.expr.UnaryOp.TheVariants as u
 use Rattle.c_tree.specs.declared.expr.StepOp.TheVariants as s
 use Rattle.c_tree.specs.TreeExpr as t
-use Rattle.c_tree.specs.Words.{Unsigned, Char, Short, Long, Int, Void, tok, mark, word}
+use Rattle.c_tree.specs.Words.{Unsigned, Char, Long, Int, Void, tok, mark, word}
 use Rattle.c_tree.specs.WrittenType.{word_part, tag_part, name_part}
 use Rattle.c_tree.specs.WrittenExpr as w
 use Rattle.c_tree.specs.Reads.{Spells}

@@ -1,3 +1,4 @@
 pub mod Of
+mod WordRows
 mod ExprRows
 mod UnitRows

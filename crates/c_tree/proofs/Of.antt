@@ -1,5 +1,5 @@
 -- The trees of the variants that hold a `Vec` of trees, from the lists of their parts.
-use Rattle.std.proofs.Common.{◌≡◌, ℕ, List, [], ◌∷◌, ◌++◌, Option, refl, ap, map, ◌∙◌, Vec, Box, Global}
+use Rattle.std.proofs.Common.{◌≡◌, ℕ, Option, refl, ap, map, ◌∙◌, Vec, Box, Global}
 use mathlib.Core.Former.{Count}
 use Rattle.c_tree.specs.declared.expr.Expr as x
 use Rattle.c_tree.specs.declared.expr.Expr.{Expr, Call}

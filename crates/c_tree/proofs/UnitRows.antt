@@ -1,5 +1,5 @@
 -- Worked units: the tree that each of these texts spells.
-use Rattle.std.proofs.Common.{List, [], ◌∷◌, Some, None, true, false, refl, lit≤, lit<, codes}
+use Rattle.std.proofs.Common.{[], ◌∷◌, Some, None, true, false, refl, lit≤, lit<, codes}
 use Rattle.c_type.specs.Names.{Name}
 use Rattle.c_type.specs.declared.Kind.TheVariants as kinds
 use Rattle.c_type.specs.declared.TagKind.TheVariants.{Struct, Enum}
@@ -8,7 +8,6 @@ use Rattle.c_tree.specs.declared.decl.Storage.TheVariants.{Auto, Register, Stati
 use Rattle.c_tree.specs.declared.expr.AssignOp.TheVariants as a
 use Rattle.c_tree.specs.declared.expr.BinaryOp.TheVariants as b
 use Rattle.c_tree.specs.declared.expr.UnaryOp.TheVariants as u
-use Rattle.c_tree.specs.declared.expr.StepOp.TheVariants as s
 use Rattle.c_tree.specs.TreeExpr as t
 use Rattle.c_tree.specs.TreeDecl as td
 use Rattle.c_tree.specs.TreeStmt as ts

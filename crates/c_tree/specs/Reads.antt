@@ -1,9 +1,10 @@
 -- Which trees tokens spell: an expression, a declaration, a unit.
-use Rattle.std.specs.Prelude.{◌≡◌, ℕ, zero, suc, ◌-◌, ◌≤◌, List, [], ◌∷◌, length, drop, Bool, true, false, nat_eq, ◌||◌, ◌&&◌}
+use Rattle.std.specs.Prelude.{◌≡◌, ℕ, suc, ◌-◌, ◌≤◌, List, [], ◌∷◌, length, drop, Bool, true, false, nat_eq, ◌||◌, ◌&&◌}
 use Rattle.c_type.specs.Names.{Name}
 use Rattle.c_type.specs.Tokens.{Tok, Token}
 use Rattle.c_type.specs.Tokens as k
-use Rattle.c_tree.specs.Words.{open_round, close_round, open_square, close_square, open_brace, close_brace, comma_mark, semicolon, colon, mark}
+use Rattle.c_type.specs.Falls.{Falls}
+use Rattle.c_tree.specs.Words.{open_round, close_round, open_square, close_square, open_brace, close_brace, comma_mark, semicolon, colon}
 use Rattle.c_tree.specs.TreeExpr.{Expr, expr_depth}
 use Rattle.c_tree.specs.TreeDecl.{LocalDecl, local_depth}
 use Rattle.c_tree.specs.TreeUnit.{Ext, FuncHead, ext_depth, head_depth, unit_depth}
@@ -49,6 +50,12 @@ pub record ReadsTokens (ts : List Token) (u : t.Unit) : Type 0 where
   pub tokens : ts ≡ spell_exts written []
   pub low : unit_depth u ≤ most
   pub shallow : AreShallow 0 ts
+
+-- The text falls into tokens that are a spelling of the unit.
+pub record Reads (bytes : List ℕ) (u : t.Unit) : Type 0 where
+  pub tokens : List Token
+  pub falls : Falls bytes tokens
+  pub reads : ReadsTokens tokens u
 
 -- ---- parts
 

@@ -51,6 +51,26 @@ mutual
     no_exprs : Exprs
     more_exprs : (e : Expr) (es : Exprs) → Exprs
 
+-- the line of the first token
+abbrev pub expr_line : Expr → ℕ
+expr_line (comma l a b) = l
+expr_line (assign l op a b) = l
+expr_line (choice l a b c) = l
+expr_line (binary l op a b) = l
+expr_line (unary l op e) = l
+expr_line (size_of l e) = l
+expr_line (size_of_type l y) = l
+expr_line (cast l y e) = l
+expr_line (index l a i) = l
+expr_line (call l f es) = l
+expr_line (member l e x) = l
+expr_line (arrow l e x) = l
+expr_line (post l op e) = l
+expr_line (name l x) = l
+expr_line (int l n long) = l
+expr_line (chr l n) = l
+expr_line (text l bytes) = l
+
 -- the greatest depth in a list
 abbrev pub deepest : {A : Type 0} → (A → ℕ) → List A → ℕ
 deepest depth [] = 0

@@ -1,5 +1,6 @@
 -- Words and marks by their places in the two lists of the language, and the operators' marks and levels.
-use Rattle.std.specs.Prelude.{ℕ, List, [], ◌∷◌}
+use Rattle.std.specs.Prelude.{ℕ, List, [], ◌∷◌, nat_eq, Option, Some, None}
+use Rattle.c_type.specs.Names.{pick}
 use Rattle.c_type.specs.declared.TagKind.{TagKind}
 use Rattle.c_type.specs.declared.TagKind.TheVariants.{Struct, Union, Enum}
 use Rattle.c_type.specs.Tokens.{Token, Tok}
@@ -14,30 +15,43 @@ use Rattle.c_tree.specs.declared.expr.StepOp.TheVariants as s
 
 abbrev pub break_word : ℕ
 break_word = 1
+
 abbrev pub case_word : ℕ
 case_word = 2
+
 abbrev pub continue_word : ℕ
 continue_word = 4
+
 abbrev pub default_word : ℕ
 default_word = 5
+
 abbrev pub do_word : ℕ
 do_word = 6
+
 abbrev pub else_word : ℕ
 else_word = 7
+
 abbrev pub for_word : ℕ
 for_word = 10
+
 abbrev pub if_word : ℕ
 if_word = 11
+
 abbrev pub register_word : ℕ
 register_word = 14
+
 abbrev pub return_word : ℕ
 return_word = 15
+
 abbrev pub sizeof_word : ℕ
 sizeof_word = 17
+
 abbrev pub switch_word : ℕ
 switch_word = 20
+
 abbrev pub typedef_word : ℕ
 typedef_word = 21
+
 abbrev pub while_word : ℕ
 while_word = 24
 
@@ -71,30 +85,43 @@ type_word Void = 23
 
 abbrev pub arrow_mark : ℕ
 arrow_mark = 4
+
 abbrev pub open_round : ℕ
 open_round = 21
+
 abbrev pub close_round : ℕ
 close_round = 22
+
 abbrev pub open_square : ℕ
 open_square = 23
+
 abbrev pub close_square : ℕ
 close_square = 24
+
 abbrev pub open_brace : ℕ
 open_brace = 25
+
 abbrev pub close_brace : ℕ
 close_brace = 26
+
 abbrev pub dot_mark : ℕ
 dot_mark = 27
+
 abbrev pub comma_mark : ℕ
 comma_mark = 28
+
 abbrev pub semicolon : ℕ
 semicolon = 29
+
 abbrev pub colon : ℕ
 colon = 30
+
 abbrev pub question : ℕ
 question = 31
+
 abbrev pub equals : ℕ
 equals = 32
+
 abbrev pub star : ℕ
 star = 35
 
@@ -164,6 +191,25 @@ unary_mark u.Dec = 3
 abbrev pub step_mark : StepOp → ℕ
 step_mark s.Inc = 2
 step_mark s.Dec = 3
+
+-- ---- the operators that marks spell
+
+-- the first of the operators whose mark is this one
+abbrev pub with_mark : {A : Type 0} → (A → ℕ) → ℕ → List A → Option A
+with_mark mark m [] = None
+with_mark mark m (x ∷ xs) = pick (nat_eq m (mark x)) (Some x) (with_mark mark m xs)
+
+abbrev pub assign_of : ℕ → Option AssignOp
+assign_of m = with_mark assign_mark m (a.Set ∷ a.Add ∷ a.Sub ∷ a.Mul ∷ a.Div ∷ a.Rem ∷ a.And ∷ a.Or ∷ a.Xor ∷ a.Shl ∷ a.Shr ∷ [])
+
+abbrev pub binary_of : ℕ → Option BinaryOp
+binary_of m = with_mark binary_mark m (b.Either ∷ b.Both ∷ b.Or ∷ b.Xor ∷ b.And ∷ b.Eq ∷ b.Ne ∷ b.Lt ∷ b.Gt ∷ b.Le ∷ b.Ge ∷ b.Shl ∷ b.Shr ∷ b.Add ∷ b.Sub ∷ b.Mul ∷ b.Div ∷ b.Rem ∷ [])
+
+abbrev pub unary_of : ℕ → Option UnaryOp
+unary_of m = with_mark unary_mark m (u.Deref ∷ u.Address ∷ u.Neg ∷ u.Not ∷ u.Flip ∷ u.Inc ∷ u.Dec ∷ [])
+
+abbrev pub step_of : ℕ → Option StepOp
+step_of m = with_mark step_mark m (s.Inc ∷ s.Dec ∷ [])
 
 -- a token of the line
 abbrev pub tok : ℕ → Tok → Token

@@ -1,5 +1,5 @@
 -- From a declarator and an initialiser to their spellings.
-use Rattle.std.specs.Prelude.{◌≡◌, ℕ, ◌≤◌, List, [], ◌∷◌, Bool, true, false, Option, Some, None}
+use Rattle.std.specs.Prelude.{◌≡◌, ℕ, List, [], ◌∷◌, Bool, true, false, Option, Some, None}
 use Rattle.c_type.specs.Names.{Name}
 use Rattle.c_type.specs.Tokens.{Token}
 use Rattle.c_type.specs.Tokens as k

@@ -1,9 +1,9 @@
 -- From a unit to its spellings.
-use Rattle.std.specs.Prelude.{◌≡◌, ℕ, List, [], ◌∷◌, ◌++◌, map, Option, Some, None}
+use Rattle.std.specs.Prelude.{ℕ, List, [], ◌∷◌, ◌++◌, map, Option, Some, None}
 use Rattle.c_type.specs.Names.{Name}
 use Rattle.c_type.specs.Tokens.{Token}
 use Rattle.c_tree.specs.Words.{Separated, listed, AreAll, spell_separated, mark, semicolon}
-use Rattle.c_tree.specs.TreeDecl.{Declr, FileSpecs}
+use Rattle.c_tree.specs.TreeDecl.{FileSpecs}
 use Rattle.c_tree.specs.TreeUnit.{Ext, FuncHead}
 use Rattle.c_tree.specs.TreeUnit as t
 use Rattle.c_tree.specs.WrittenDeclr.{WrittenDeclr, WrittenItem, declared, declr_line, plain_declr, IsDeclr, IsHead, spell_declr, plain_item, IsItem, spell_item}
