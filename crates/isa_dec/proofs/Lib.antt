@@ -1,0 +1,7 @@
+pub mod Numbers
+pub mod Operands
+pub mod Forms
+pub mod Back
+pub mod Forth
+pub mod More
+pub mod Law

@@ -1,0 +1,4 @@
+pub mod OperandAt
+pub mod OpcodeAt
+pub mod Decoded
+pub mod Reads
