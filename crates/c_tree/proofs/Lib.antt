@@ -2,3 +2,14 @@ pub mod Of
 mod WordRows
 mod ExprRows
 mod UnitRows
+pub mod Quiet
+pub mod Later
+pub mod LaterExprs
+pub mod LaterStmts
+pub mod LaterRun
+pub mod Suited
+pub mod StartLines
+pub mod Seen
+mod MachineRows
+mod LeavesRows
+mod EvaluationRows

@@ -13,3 +13,26 @@ pub mod WrittenDecl
 pub mod WrittenStmt
 pub mod WrittenUnit
 pub mod Reads
+-- typed trees, and the source machine
+pub mod TExpr
+pub mod TStmt
+pub mod TUnit
+pub mod TypedOf
+pub mod Starts
+pub mod Mentions
+pub mod Lasting
+pub mod Bodies
+pub mod Values
+pub mod Arith
+pub mod Constant
+pub mod State
+pub mod Context
+pub mod Pointers
+pub mod Exprs
+pub mod Stmts
+pub mod Calls
+pub mod Run
+pub mod Scope
+pub mod Place
+pub mod Numbers
+pub mod Laws

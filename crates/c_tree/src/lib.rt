@@ -14,3 +14,19 @@ pub use decl::{
 pub use expr::{AssignOp, BinaryOp, Expr, StepOp, TagRef, TypeName, TypeSpec, UnaryOp};
 pub use stmt::{Block, Stmt, SwItem};
 pub use unit::{Ext, Unit};
+
+// Typed trees, and what is proved of the source machine over them.
+mod laws;
+mod start_lines;
+mod typed_expr;
+mod typed_stmt;
+mod typed_unit;
+
+pub use laws::{each_run_halts, end_is_final, fuel_is_enough, stop_is_exact};
+pub use start_lines::starts;
+pub use typed_expr::{Ref, TBinary, TExpr, TStep, TUnary};
+pub use typed_stmt::{TBlock, TDeclr, TInit, TLocal, TLocalDecl, TStmt, TSwItem};
+pub use typed_unit::{
+    Bound, Program, StartId, TEnumerator, TExt, TFunc, TItem, TMembers, TParDecl, TParam, TSpec,
+    TypedUnit,
+};

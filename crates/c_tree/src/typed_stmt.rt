@@ -1,0 +1,81 @@
+// Typed declarations in blocks, and typed statements.
+use crate::typed_expr::TExpr;
+use c_type::CType;
+use num_le::Name;
+
+/// A declarator: its name, its type, and the constant expressions of its dimensions in textual order.
+#[derive(Drop)]
+pub struct TDeclr {
+    pub name: Name,
+    pub ty: CType,
+    pub dims: Vec<TExpr>,
+}
+
+/// An initialiser.
+#[derive(Drop)]
+pub enum TInit {
+    Single(TExpr),
+    /// The bytes of a text that fills an array of char, the zero byte too where there is room.
+    Bytes(Name),
+    Group(Vec<TInit>),
+}
+
+/// A declarator of a block, by what it declares.
+#[derive(Drop)]
+pub enum TLocal {
+    /// An automatic object, with its number in its function.
+    Auto(TDeclr, u32),
+    /// An initialised automatic object, with its number, and the number and line of its start.
+    AutoInit(TDeclr, u32, u32, u32, TExpr),
+    /// A static object, with its number in its unit.
+    Static(TDeclr, u32, Option<TInit>),
+    /// An external object.
+    Extern(TDeclr),
+    /// A function, and whether it is static.
+    Function(TDeclr, bool),
+}
+
+/// A declaration of a block.
+#[derive(Drop)]
+pub struct TLocalDecl {
+    pub items: Vec<TLocal>,
+}
+
+/// A block with the lines of its braces.
+#[derive(Drop)]
+#[cycle(typed_stmts)]
+pub struct TBlock {
+    pub line: u32,
+    pub locals: Vec<TLocalDecl>,
+    pub stmts: Vec<TStmt>,
+    pub close_line: u32,
+}
+
+/// A part of a switch.
+#[derive(Drop)]
+#[cycle(typed_stmts)]
+pub enum TSwItem {
+    /// A case, with the 32 bits of its value in the widened type of the switch.
+    Case(TExpr, u32),
+    Default,
+    Stmt(TStmt),
+}
+
+/// A statement. A statement that is a start has the start's number in its file, and its line.
+#[derive(Drop)]
+#[cycle(typed_stmts)]
+pub enum TStmt {
+    Expr(u32, u32, TExpr),
+    Empty(u32, u32),
+    IfOnly(u32, u32, TExpr, Box<TStmt>),
+    IfElse(u32, u32, TExpr, Box<TStmt>, Box<TStmt>),
+    While(u32, u32, TExpr, Box<TStmt>),
+    Do(u32, u32, Box<TStmt>, TExpr),
+    /// The starts k, k + 1 and k + 2 are those of its first part, its test and its step.
+    For(u32, u32, Option<TExpr>, Option<TExpr>, Option<TExpr>, Box<TStmt>),
+    Switch(u32, u32, TExpr, Vec<TSwItem>),
+    Break(u32, u32),
+    Continue(u32, u32),
+    Return(u32, u32, Option<TExpr>),
+    Block(TBlock),
+}
