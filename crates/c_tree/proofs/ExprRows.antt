@@ -316,7 +316,7 @@ types : Spells (n_s ∷ []) 1
     ((mark 1 21) ∷ (word 1 12) ∷ (word 1 13) ∷ (word 1 22) ∷ (mark 1 35) ∷ (mark 1 35) ∷ (mark 1 22) ∷ (word 1 17) ∷ (mark 1 21) ∷ (word 1 19) ∷ (tok 1 (k.name n_s)) ∷ (mark 1 22) ∷ []) []
 types = record {
   written = w.cast 1 (record { parts = (word_part 1 Int) ∷ (word_part 1 Long) ∷ (word_part 1 Unsigned) ∷ []; types = t.num kinds.ULong; stars = 1 ∷ 1 ∷ [] }) 1 (w.size_of_type 1 1 (record { parts = (tag_part 1 Struct 1 n_s) ∷ []; types = t.tag (record { line = 1; kind = Struct; name = n_s }); stars = [] }) 1);
-  levelled = (lit≤ tt, (lit≤ tt, (refl, (tt, (tt, (tt, tt)))), (refl, (tt, tt))));
+  levelled = (lit≤ tt, (lit≤ tt, (refl, (tt, (tt, (tt, tt)))), (refl, (refl, tt))));
   plain_is = refl;
   tokens = refl;
 }
@@ -327,7 +327,7 @@ enumeration : Spells [] 1
     ((mark 1 21) ∷ (word 1 8) ∷ (tok 1 (k.name n_e)) ∷ (mark 1 35) ∷ (mark 1 22) ∷ (mark 1 21) ∷ (word 1 23) ∷ (mark 1 22) ∷ (tok 1 (k.name n_a)) ∷ []) []
 enumeration = record {
   written = w.cast 1 (record { parts = (tag_part 1 Enum 1 n_e) ∷ []; types = t.tag (record { line = 1; kind = Enum; name = n_e }); stars = 1 ∷ [] }) 1 (w.cast 1 (record { parts = (word_part 1 Void) ∷ []; types = t.void; stars = [] }) 1 (w.name 1 n_a));
-  levelled = (lit≤ tt, (lit≤ tt, (refl, (tt, tt)), (lit≤ tt, (refl, (tt, tt)), refl)));
+  levelled = (lit≤ tt, (lit≤ tt, (refl, (refl, tt)), (lit≤ tt, (refl, (tt, tt)), refl)));
   plain_is = refl;
   tokens = refl;
 }

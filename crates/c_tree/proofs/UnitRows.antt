@@ -168,7 +168,7 @@ typedef_name : ReadsTokens
     (record { exts = (tu.typedef 1 (Some (td.spec (t.num kinds.Int))) ((td.name 1 n_t) ∷ (td.pointer 1 (td.function 1 (td.name 1 n_u) [])) ∷ [])) ∷ (tu.object 1 (record { storage = None; types = Some (td.spec (t.named n_t)) }) ((record { declr = td.name 1 n_a; init = None }) ∷ [])) ∷ (tu.tag_only 1 (td.body (td.struct 1 (Some n_t) (td.more_mems (td.mem 1 (td.spec (t.named n_u)) ((td.name 1 n_b) ∷ [])) td.no_mems)))) ∷ (tu.object 1 (record { storage = None; types = Some (td.spec (t.tag (record { line = 1; kind = Struct; name = n_t }))) }) ((record { declr = td.pointer 1 (td.name 1 n_t2); init = None }) ∷ [])) ∷ (tu.tag_only 1 (td.ref (record { line = 1; kind = Enum; name = n_t }))) ∷ [] })
 typedef_name = record {
   written = (uw.typedef (sw.more_parts (sw.typedef 1) (sw.more_parts (sw.typed (word_part 1 Int)) sw.no_parts)) (record { first = (dw.name 1 n_t); others = (record { comma = 1; member = (dw.pointer 1 (dw.function (dw.name 1 n_u) 1 None 1)) }) ∷ [] }) 1) ∷ (uw.object (sw.more_parts (sw.typed (name_part 1 n_t)) sw.no_parts) (record { first = (record { declr = dw.name 1 n_a; given = None }); others = [] }) 1) ∷ (uw.tag_only (gw.body (sw.struct 1 (Some (record { line = 1; name = n_t })) 1 (sw.last_mem (sw.mem (sw.more_parts (sw.typed (name_part 1 n_u)) sw.no_parts) (record { first = (dw.name 1 n_b); others = [] }) 1)) 1)) 1) ∷ (uw.object (sw.more_parts (sw.typed (tag_part 1 Struct 1 n_t)) sw.no_parts) (record { first = (record { declr = dw.pointer 1 (dw.name 1 n_t2); given = None }); others = [] }) 1) ∷ (uw.tag_only (gw.ref 1 Enum 1 n_t) 1) ∷ [];
-  levelled = ((record { no_storage = refl; one_typedef = refl; types = refl; parts = (tt, tt) }, (refl, ((refl, refl, refl), tt))), ((record { some = refl; storage = refl; no_typedef = refl; types = refl; parts = (refl, tt) }, ((refl, tt), tt)), ((refl, refl, refl, (refl, tt), (refl, tt)), ((record { some = refl; storage = refl; no_typedef = refl; types = refl; parts = (tt, tt) }, ((refl, tt), tt)), (refl, tt)))));
+  levelled = ((record { no_storage = refl; one_typedef = refl; types = refl; parts = (tt, tt) }, (refl, ((refl, refl, refl), tt))), ((record { some = refl; storage = refl; no_typedef = refl; types = refl; parts = (refl, tt) }, ((refl, tt), tt)), ((refl, refl, refl, (refl, tt), (refl, tt)), ((record { some = refl; storage = refl; no_typedef = refl; types = refl; parts = (refl, tt) }, ((refl, tt), tt)), (refl, tt)))));
   plain_is = refl;
   tokens = refl;
   low = lit≤ tt;
@@ -298,7 +298,7 @@ locals : ReadsTokens
     (record { exts = (tu.typedef 1 None ((td.name 1 n_t) ∷ [])) ∷ (tu.func 1 None (td.function 1 (td.name 1 n_f) []) [] (record { line = 1; decls = (record { line = 1; specs = record { storage = Some Register; types = None }; items = (record { declr = td.name 1 n_i; init = Some (td.single (t.int 1 1 false)) }) ∷ (record { declr = td.name 1 n_j; init = None }) ∷ [] }) ∷ (record { line = 1; specs = record { storage = Some Auto; types = Some (t.named n_t) }; items = (record { declr = td.name 1 n_x; init = None }) ∷ [] }) ∷ (record { line = 1; specs = record { storage = Some Static; types = Some (t.tag (record { line = 1; kind = Struct; name = n_t })) }; items = (record { declr = td.pointer 1 (td.name 1 n_p); init = None }) ∷ [] }) ∷ (record { line = 1; specs = record { storage = Some Extern; types = Some (t.num kinds.UInt) }; items = (record { declr = td.array 1 (td.name 1 n_e) None; init = None }) ∷ [] }) ∷ []; stmts = ts.more_stmts (ts.block 1 ((record { line = 1; specs = record { storage = None; types = Some (t.named n_t) }; items = (record { declr = td.name 1 n_x; init = None }) ∷ [] }) ∷ []) (ts.more_stmts (ts.empty 1) ts.no_stmts) 1) ts.no_stmts; close_line = 1 })) ∷ [] })
 locals = record {
   written = (uw.typedef (sw.more_parts (sw.typedef 1) sw.no_parts) (record { first = (dw.name 1 n_t); others = [] }) 1) ∷ (uw.func (record { parts = sw.no_parts; declr = dw.function (dw.name 1 n_f) 1 None 1; params = [] }) (record { line = 1; decls = (record { parts = (gw.storage 1 Register) ∷ []; items = record { first = (record { declr = dw.name 1 n_i; given = Some (record { line = 1; init = dw.single (w.int 1 1 false) }) }); others = (record { comma = 1; member = (record { declr = dw.name 1 n_j; given = None }) }) ∷ [] }; line = 1 }) ∷ (record { parts = (gw.storage 1 Auto) ∷ (gw.typed (name_part 1 n_t)) ∷ []; items = record { first = (record { declr = dw.name 1 n_x; given = None }); others = [] }; line = 1 }) ∷ (record { parts = (gw.storage 1 Static) ∷ (gw.typed (tag_part 1 Struct 1 n_t)) ∷ []; items = record { first = (record { declr = dw.pointer 1 (dw.name 1 n_p); given = None }); others = [] }; line = 1 }) ∷ (record { parts = (gw.storage 1 Extern) ∷ (gw.typed (word_part 1 Unsigned)) ∷ []; items = record { first = (record { declr = dw.array (dw.name 1 n_e) 1 None 1; given = None }); others = [] }; line = 1 }) ∷ []; stmts = zw.more_stmts (zw.block 1 ((record { parts = (gw.typed (name_part 1 n_t)) ∷ []; items = record { first = (record { declr = dw.name 1 n_x; given = None }); others = [] }; line = 1 }) ∷ []) (zw.more_stmts (zw.empty 1) zw.no_stmts) 1) zw.no_stmts; close_line = 1 })) ∷ [];
-  levelled = ((record { no_storage = refl; one_typedef = refl; types = refl; parts = tt }, (refl, tt)), (((tt, (refl, tt), tt), (((record { some = refl; storage = refl; types = refl; parts = tt }, ((refl, (lit≤ tt, tt)), ((refl, tt), tt))), ((record { some = refl; storage = refl; types = refl; parts = (refl, tt) }, ((refl, tt), tt)), ((record { some = refl; storage = refl; types = refl; parts = (tt, tt) }, ((refl, tt), tt)), ((record { some = refl; storage = refl; types = refl; parts = (tt, tt) }, (((refl, refl, tt), tt), tt)), tt)))), ((((record { some = refl; storage = refl; types = refl; parts = (refl, tt) }, ((refl, tt), tt)), tt), (tt, tt)), tt))), tt));
+  levelled = ((record { no_storage = refl; one_typedef = refl; types = refl; parts = tt }, (refl, tt)), (((tt, (refl, tt), tt), (((record { some = refl; storage = refl; types = refl; parts = tt }, ((refl, (lit≤ tt, tt)), ((refl, tt), tt))), ((record { some = refl; storage = refl; types = refl; parts = (refl, tt) }, ((refl, tt), tt)), ((record { some = refl; storage = refl; types = refl; parts = (refl, tt) }, ((refl, tt), tt)), ((record { some = refl; storage = refl; types = refl; parts = (tt, tt) }, (((refl, refl, tt), tt), tt)), tt)))), ((((record { some = refl; storage = refl; types = refl; parts = (refl, tt) }, ((refl, tt), tt)), tt), (tt, tt)), tt))), tt));
   plain_is = refl;
   tokens = refl;
   low = lit≤ tt;

@@ -108,14 +108,18 @@ pub record IsDeclarationAt (defs : List Name) (ts : List Token) (at : ℕ) (e : 
   pub low : ext_depth e ≤ most
   pub within : k ≤ length ts
 
+abbrev pub is_brace : Tok → Bool
+is_brace (k.name x) = false
+is_brace (k.int n long) = false
+is_brace (k.chr n) = false
+is_brace (k.text bytes) = false
+is_brace (k.word w) = false
+is_brace (k.mark m) = nat_eq m open_brace
+
 -- a block begins
 abbrev pub begins_block : List Token → Bool
 begins_block [] = false
 begins_block (x ∷ ts) = is_brace x.kind
-  where
-    is_brace : Tok → Bool
-    is_brace (k.mark m) = nat_eq m open_brace
-    is_brace _ = false
 
 -- The head of a function spells the tokens from `at` up to k, where its block begins.
 pub record IsHeadAt (defs : List Name) (ts : List Token) (at : ℕ) (h : FuncHead) (k : ℕ) : Type 0 where

@@ -2,14 +2,13 @@
 use Rattle.std.specs.Prelude.{◌≡◌, ℕ, List, [], ◌∷◌, Bool, true, false, Option}
 use Rattle.c_type.specs.Names.{Name, or_default}
 use Rattle.c_type.specs.declared.TagKind.{TagKind}
-use Rattle.c_type.specs.declared.TagKind.TheVariants.{Struct, Union, Enum}
 use Rattle.c_type.specs.Tokens.{Token}
 use Rattle.c_type.specs.Tokens as k
 use Rattle.c_tree.specs.Words.{Separated, listed, AreAll, spell_separated, tok, mark, word, storage_word, tag_word, register_word, semicolon}
 use Rattle.c_tree.specs.TreeExpr as x
 use Rattle.c_tree.specs.TreeDecl.{Storage, TagSpec, ParDecl, LocalSpecs, LocalDecl}
 use Rattle.c_tree.specs.TreeDecl as t
-use Rattle.c_tree.specs.WrittenType.{TypePart, spelled, IsPart, part_line, spell_part}
+use Rattle.c_tree.specs.WrittenType.{TypePart, spelled, has_spelling, IsPart, part_line, spell_part}
 use Rattle.c_tree.specs.WrittenDeclr.{WrittenDeclr, WrittenItem, spell_if, plain_declr, IsDeclr, spell_declr, plain_item, IsItem, spell_item}
 use Rattle.c_tree.specs.WrittenSpecs.{Parts, WrittenDef, AreTypes, IsDef, first_line, def_line, plain_types, plain_def, is_some, is_type_or_none, first_of, spell_specs, spell_def}
 
@@ -22,12 +21,6 @@ pub data WrittenTag : Type 0 where
 abbrev pub plain_tag : WrittenTag → TagSpec
 plain_tag (ref l kind m x) = t.ref (record { line = l; kind = kind; name = x })
 plain_tag (body d) = t.body (plain_def d)
-
--- a union has no spelling
-abbrev pub has_spelling : TagKind → Bool
-has_spelling Struct = true
-has_spelling Union = false
-has_spelling Enum = true
 
 abbrev pub IsTag : List Name → WrittenTag → Type 0
 IsTag defs (ref l kind m x) = has_spelling kind ≡ true
@@ -110,7 +103,7 @@ is_none (p ∷ ps) = false
 pub record AreLocalSpecs (defs : List Name) (ps : List LocalPart) : Type 0 where
   pub some : is_none ps ≡ false
   pub storage : is_at_most_one (local_storages ps) ≡ true
-  pub types : is_type_or_none [] (local_types ps) ≡ true
+  pub types : is_type_or_none 0 (local_types ps) ≡ true
   pub parts : AreLocalParts defs ps
 
 abbrev pub spell_local_parts : List LocalPart → List Token → List Token

@@ -1,5 +1,5 @@
 -- From the words before the declarators, tags' bodies and the declarations of members and parameters to their spellings.
-use Rattle.std.specs.Prelude.{◌≡◌, ℕ, suc, List, [], ◌∷◌, Bool, true, false, Option, Some, None}
+use Rattle.std.specs.Prelude.{◌≡◌, ℕ, zero, suc, List, [], ◌∷◌, length, Bool, true, false, Option, Some, None}
 use Rattle.c_type.specs.Names.{Name, or_else, or_default}
 use Rattle.c_type.specs.declared.TagKind.TheVariants.{Struct, Enum}
 use Rattle.c_type.specs.Tokens.{Token}
@@ -135,18 +135,18 @@ abbrev pub is_some : {A : Type 0} → Option A → Bool
 is_some None = false
 is_some (Some x) = true
 
--- one type: a tag's body or what the parts spell
-abbrev pub is_type : List WrittenDef → List TypePart → Bool
-is_type [] ts = is_some (spelled ts)
-is_type (d ∷ []) [] = true
-is_type (d ∷ []) (p ∷ ps) = false
-is_type (d ∷ e ∷ ds) ps = false
+-- one type: a tag's body or what the parts spell, where so many bodies stand among the words
+abbrev pub is_type : ℕ → List TypePart → Bool
+is_type zero ps = is_some (spelled ps)
+is_type (suc zero) [] = true
+is_type (suc zero) (p ∷ ps) = false
+is_type (suc (suc n)) ps = false
 
 -- at most one type
-abbrev pub is_type_or_none : List WrittenDef → List TypePart → Bool
-is_type_or_none [] [] = true
-is_type_or_none [] (p ∷ ps) = is_type [] (p ∷ ps)
-is_type_or_none (d ∷ ds) ps = is_type (d ∷ ds) ps
+abbrev pub is_type_or_none : ℕ → List TypePart → Bool
+is_type_or_none zero [] = true
+is_type_or_none zero (p ∷ ps) = is_type zero (p ∷ ps)
+is_type_or_none (suc n) ps = is_type (suc n) ps
 
 -- at most one storage word, which may stand outside of blocks
 abbrev pub is_file_storage : List Storage → Bool
@@ -185,7 +185,7 @@ abbrev mutual
   AreMems defs (more_mems m ms) = IsMem defs m × AreMems defs ms
 
   pub IsMem : List Name → WrittenMem → Type 0
-  IsMem defs (mem ps ds l) = (storages ps ≡ []) × (typedefs ps ≡ 0) × (is_type (bodies ps) (type_parts ps) ≡ true) × AreParts defs ps × AreAll (IsDeclr defs) ds
+  IsMem defs (mem ps ds l) = (storages ps ≡ []) × (typedefs ps ≡ 0) × (is_type (length (bodies ps)) (type_parts ps) ≡ true) × AreParts defs ps × AreAll (IsDeclr defs) ds
 
 abbrev pub is_empty : Parts → Bool
 is_empty no_parts = true
@@ -196,21 +196,21 @@ pub record AreSpecs (defs : List Name) (ps : Parts) : Type 0 where
   pub some : is_empty ps ≡ false
   pub storage : is_file_storage (storages ps) ≡ true
   pub no_typedef : typedefs ps ≡ 0
-  pub types : is_type_or_none (bodies ps) (type_parts ps) ≡ true
+  pub types : is_type_or_none (length (bodies ps)) (type_parts ps) ≡ true
   pub parts : AreParts defs ps
 
 -- the words of a typedef: `typedef` is its storage word
 pub record AreTypedef (defs : List Name) (ps : Parts) : Type 0 where
   pub no_storage : storages ps ≡ []
   pub one_typedef : typedefs ps ≡ 1
-  pub types : is_type_or_none (bodies ps) (type_parts ps) ≡ true
+  pub types : is_type_or_none (length (bodies ps)) (type_parts ps) ≡ true
   pub parts : AreParts defs ps
 
 -- a type alone
 pub record AreTypes (defs : List Name) (ps : Parts) : Type 0 where
   pub no_storage : storages ps ≡ []
   pub no_typedef : typedefs ps ≡ 0
-  pub types : is_type (bodies ps) (type_parts ps) ≡ true
+  pub types : is_type (length (bodies ps)) (type_parts ps) ≡ true
   pub parts : AreParts defs ps
 
 -- ---- the tokens

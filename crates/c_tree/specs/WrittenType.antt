@@ -68,19 +68,23 @@ abbrev pub if_alone : List TypePart → TypeSpec → Option TypeSpec
 if_alone [] y = Some y
 if_alone (p ∷ ps) y = None
 
--- Words in any order, or one tag, or one typedef name. A union has no spelling.
+-- Words in any order, or one tag, or one typedef name.
 abbrev pub spelled : List TypePart → Option TypeSpec
 spelled [] = None
 spelled (word_part l w ∷ ps) = worded (words_in (word_part l w ∷ ps))
-spelled (tag_part l Struct m x ∷ ps) = if_alone ps (t.tag (record { line = l; kind = Struct; name = x }))
-spelled (tag_part l Union m x ∷ ps) = None
-spelled (tag_part l Enum m x ∷ ps) = if_alone ps (t.tag (record { line = l; kind = Enum; name = x }))
+spelled (tag_part l kind m x ∷ ps) = if_alone ps (t.tag (record { line = l; kind = kind; name = x }))
 spelled (name_part l x ∷ ps) = if_alone ps (t.named x)
+
+-- a union has no spelling
+abbrev pub has_spelling : TagKind → Bool
+has_spelling Struct = true
+has_spelling Union = false
+has_spelling Enum = true
 
 -- A name is a typedef name. That of a tag may be one.
 abbrev pub IsPart : List Name → TypePart → Type 0
 IsPart defs (word_part l w) = Unit {0}
-IsPart defs (tag_part l kind m x) = Unit {0}
+IsPart defs (tag_part l kind m x) = has_spelling kind ≡ true
 IsPart defs (name_part l x) = is_typedef defs x ≡ true
 
 abbrev pub AreParts : List Name → List TypePart → Type 0
