@@ -1,0 +1,10 @@
+pub mod Texts
+pub mod Runs
+pub mod Between
+pub mod Quotes
+pub mod Closed
+pub mod Values
+pub mod Fits
+pub mod Fronts
+pub mod Growing
+pub mod Shows
