@@ -13,3 +13,9 @@ pub mod Seen
 mod MachineRows
 mod LeavesRows
 mod EvaluationRows
+mod RuleRows
+mod UnitTyped
+pub mod OneExpr
+pub mod OneDecl
+pub mod OneStmt
+pub mod OneUnit

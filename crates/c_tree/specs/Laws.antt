@@ -1,9 +1,15 @@
--- Laws of Run. A program, an input and changes are fixed; n and m are stop numbers.
+-- Laws. Of Run: a program, an input and changes are fixed; n and m are stop numbers. Of typing: a unit that was read is fixed.
 use Rattle.std.specs.Prelude.{◌≡◌, ℕ, ◌<◌, ◌≤◌, List}
-use Rattle.c_tree.specs.TUnit.{Program}
+use Rattle.c_tree.specs.TreeExpr.{Expr}
+use Rattle.c_tree.specs.TreeUnit as u
+use Rattle.c_tree.specs.TExpr.{TExpr}
+use Rattle.c_tree.specs.TUnit.{Program, TypedUnit}
 use Rattle.c_tree.specs.Values.{Value, Stop, Stopped, NoFuel}
 use Rattle.c_tree.specs.State.{State, Gave, Halt, Changes}
 use Rattle.c_tree.specs.Run.{run}
+use Rattle.c_tree.specs.RuleScope.{Env}
+use Rattle.c_tree.specs.RuleTree.{IsExpr}
+use Rattle.c_tree.specs.RuleUnit.{IsTyped, at_first}
 
 -- n is fuel enough for the stop number n
 abbrev pub HasFuel : Type 0
@@ -22,3 +28,11 @@ abbrev pub EndsAlike : Type 0
 EndsAlike =
     (p : Program) (input : List ℕ) (ch : Changes) (n m : ℕ) (why : Stop) (s : State) →
     0 < n → n ≤ m → (why ≡ Stopped → ⊥) → run p input ch n ≡ Halt why s → run p input ch m ≡ Halt why s
+
+-- where an expression stands, at most one typed expression belongs to it
+abbrev pub OneTypedExpr : Type 0
+OneTypedExpr = (c : Env) (a : Expr) (t t' : TExpr) → IsExpr c a t → IsExpr c a t' → t ≡ t'
+
+-- with the same tags, texts, bodies and declarators, at most one typed unit belongs to a unit
+abbrev pub OneTypedUnit : Type 0
+OneTypedUnit = (y : u.Unit) (x x' : TypedUnit) → IsTyped y x → IsTyped y x' → at_first x ≡ at_first x' → x ≡ x'

@@ -35,4 +35,14 @@ pub mod Run
 pub mod Scope
 pub mod Place
 pub mod Numbers
+pub mod RuleScope
+pub mod RuleTypes
+pub mod RuleValues
+pub mod RuleExprs
+pub mod RuleTree
+pub mod RuleDecls
+pub mod RuleStmts
+pub mod RuleTags
+pub mod RuleUnit
+pub mod Rules
 pub mod Laws

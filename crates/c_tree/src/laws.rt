@@ -1,5 +1,5 @@
-// Laws of runs of the source machine.
-ghost use Rattle.c_tree.specs.Laws.{HasFuel, Halts, StopsAt, EndsAlike};
+// Laws of runs of the source machine, and of the typed trees.
+ghost use Rattle.c_tree.specs.Laws.{HasFuel, Halts, StopsAt, EndsAlike, OneTypedExpr, OneTypedUnit};
 
 /// A run with stop number n never wants for fuel: each call of a body and each round of a loop begins a turn.
 #[tactic(auto, using(crate::proofs::LaterRun::has_fuel))]
@@ -28,6 +28,21 @@ pub fn stop_is_exact()
 #[tactic(auto, using(crate::proofs::LaterRun::ends_alike))]
 pub fn end_is_final()
     ensures law { EndsAlike }
+{
+    // The law is all that is promised.
+}
+
+/// Where an expression stands, at most one typed expression belongs to it.
+#[tactic(auto, using(crate::proofs::OneExpr::expr_one))]
+pub fn expression_has_one_type()
+    ensures law { OneTypedExpr }
+{
+    // The law is all that is promised.
+}
+
+/// A unit has at most one typed unit with the same tags, texts, bodies and declarators.
+pub fn unit_has_one_type()
+    ensures law { OneTypedUnit }
 {
     // The law is all that is promised.
 }

@@ -22,7 +22,10 @@ mod typed_expr;
 mod typed_stmt;
 mod typed_unit;
 
-pub use laws::{each_run_halts, end_is_final, fuel_is_enough, stop_is_exact};
+pub use laws::{
+    each_run_halts, end_is_final, expression_has_one_type, fuel_is_enough, stop_is_exact,
+    unit_has_one_type,
+};
 pub use start_lines::starts;
 pub use typed_expr::{Ref, TBinary, TExpr, TStep, TUnary};
 pub use typed_stmt::{TBlock, TDeclr, TInit, TLocal, TLocalDecl, TStmt, TSwItem};

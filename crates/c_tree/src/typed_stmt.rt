@@ -15,7 +15,7 @@ pub struct TDeclr {
 #[derive(Drop)]
 pub enum TInit {
     Single(TExpr),
-    /// The bytes of a text that fills an array of char, the zero byte too where there is room.
+    /// The bytes of a text that fills an array of char, with its zero byte, for which there may be no room.
     Bytes(Name),
     Group(Vec<TInit>),
 }

@@ -1,0 +1,190 @@
+-- The rules on declarators, constants and initialisers.
+use Rattle.std.specs.Prelude.{◌≡◌, ℕ, zero, suc, ◌+◌, ◌-◌, ◌*◌, ◌≤◌, List, [], ◌∷◌, ◌++◌, length, map, replicate, Option, Some, None, Bool, true, false, not, nat_eq, nat_le, ◌&&◌, ◌||◌, ◌⊎◌}
+use Rattle.c_type.specs.Names.{Name, pick, at_or}
+use Rattle.c_type.specs.declared.Kind.TheVariants.{Char}
+use Rattle.c_type.specs.Types.{CType, num, ptr, arr, struct, fun, Tag, Member, is_integer, is_pointer, signed_type, target}
+use Rattle.c_type.specs.Sizes.{size, no_tag}
+use Rattle.c_tree.specs.TreeExpr as u
+use Rattle.c_tree.specs.TreeDecl as ud
+use Rattle.c_tree.specs.TExpr as e
+use Rattle.c_tree.specs.TExpr.{TExpr, type_of}
+use Rattle.c_tree.specs.TStmt as st
+use Rattle.c_tree.specs.TStmt.{Declr}
+use Rattle.c_tree.specs.Constant.{constant, given, is_zero}
+use Rattle.std.specs.List.{flat_map}
+use Rattle.c_tree.specs.Mentions.{in_expr, in_init}
+use Rattle.c_tree.specs.RuleScope.{Is, Env, past}
+use Rattle.c_tree.specs.RuleTypes.{declared_type}
+use Rattle.c_tree.specs.RuleValues.{used, taken, is_scalar}
+use Rattle.c_tree.specs.RuleTree.{IsExpr}
+
+-- rule 9: a constant expression with its 32 bits
+abbrev pub IsConstant : Env → u.Expr → TExpr → ℕ → Type 0
+IsConstant c a v n = (x : TExpr) × IsExpr c a x × (used x ≡ Is v) × (constant c.tags v ≡ Some n)
+
+abbrev pub is_positive : CType → ℕ → Bool
+is_positive t n = not (nat_eq n 0) && not (signed_type t && nat_le 2147483648 n)
+
+-- whether nothing stands between an array's brackets and its name
+abbrev pub is_name : ud.Declr → Bool
+is_name (ud.name l x) = true
+is_name _ = false
+
+-- Rule 5: a dimension is a constant of at least 1. The outermost one may be missing where `missing` gives its number. The
+-- declarator x has the type t, where base is the type that its words give, and es are its dimensions in textual order.
+abbrev pub IsDerived : Env → Option ℕ → CType → ud.Declr → (x : Name) (t : CType) (es : List TExpr) → Type 0
+IsDerived c missing base (ud.pointer l d) x t es = IsDerived c missing (ptr base) d x t es
+IsDerived c missing base (ud.name l y) x t es = (x ≡ y) × (t ≡ base) × (es ≡ [])
+IsDerived c missing base (ud.array l d None) x t es = (n : ℕ) × (is_name d ≡ true) × (missing ≡ Some n) × IsDerived c missing (arr n base) d x t es
+IsDerived c missing base (ud.array l d (Some a)) x t es =
+    (v : TExpr) × (n : ℕ) × (rest : List TExpr) × IsDerived c missing (arr n base) d x t rest × IsConstant (past (flat_map in_expr rest) c) a v n ×
+    (is_positive (type_of v) n ≡ true) × (es ≡ rest ++ v ∷ [])
+IsDerived c missing base (ud.function l d xs) x t es = IsDerived c missing (fun base) d x t es
+
+-- a declarator with its type, which meets the rules on types
+abbrev pub IsDeclr : Env → Option ℕ → CType → ud.Declr → Declr → Type 0
+IsDeclr c missing base d r = IsDerived c missing base d r.name r.ty r.dims × (declared_type c r.ty ≡ Is r.ty)
+
+-- addresses that are constants
+
+-- the size of an object of static life, and an offset in it
+pub record Spot : Type 0 where
+  pub size : ℕ
+  pub off : ℕ
+
+-- an array whose dimension is missing has at least one element
+abbrev pub least_size : List Tag → CType → ℕ
+least_size ts (arr n t) = pick (nat_eq n 0) (size ts t) (size ts (arr n t))
+least_size ts t = size ts t
+
+abbrev pub inside : Spot → Option Spot
+inside s = pick (nat_le s.off s.size) (Some s) None
+
+-- a spot moved up or down, inside its object or to its end
+abbrev pub moved_by : Bool → ℕ → Spot → Option Spot
+moved_by true d s = pick (nat_le d s.off) (inside (record s { off = s.off - d })) None
+moved_by false d s = inside (record s { off = s.off + d })
+
+-- a spot moved by elements of that size; the number is read by its type
+abbrev pub moved_elements : (step : ℕ) (signed down : Bool) → ℕ → Spot → Option Spot
+moved_elements step signed down n s =
+    pick (signed && nat_le 2147483648 n) (moved_by (not down) ((4294967296 - n) * step) s) (moved_by down (n * step) s)
+
+abbrev pub is_lasting : e.Ref → Bool
+is_lasting (e.Static k) = true
+is_lasting (e.Ext x) = true
+is_lasting _ = false
+
+abbrev pub member_off : List Tag → CType → ℕ → ℕ
+member_off ts (struct k) m = member_at m (at_or no_tag ts k).members
+  where
+    member_at : ℕ → List Member → ℕ
+    member_at m [] = 0
+    member_at zero (x ∷ xs) = x.off
+    member_at (suc m) (x ∷ xs) = member_at m xs
+member_off ts _ m = 0
+
+-- the spot that a place or a pointer names, if it is known before the run
+abbrev mutual
+  pub place_spot : List Tag → TExpr → Option Spot
+  place_spot ts (e.name t r) = pick (is_lasting r) (Some (record { size = least_size ts t; off = 0 })) None
+  place_spot ts (e.text t k) = Some (record { size = size ts t; off = 0 })
+  place_spot ts (e.deref t a) = pointer_spot ts a
+  place_spot ts (e.index t a i) = given (pointer_spot ts a) (λ s. given (constant ts i) (λ n. moved_elements (size ts t) (signed_type (type_of i)) false n s))
+  place_spot ts (e.member t a m) = given (place_spot ts a) (moved_by false (member_off ts (type_of a) m))
+  place_spot ts (e.arrow t a m) = given (pointer_spot ts a) (moved_by false (member_off ts (target (type_of a)) m))
+  place_spot ts _ = None
+
+  pub pointer_spot : List Tag → TExpr → Option Spot
+  pointer_spot ts (e.address t a) = place_spot ts a
+  pointer_spot ts (e.decay t a) = place_spot ts a
+  pointer_spot ts (e.binary t e.Add a b) =
+      pick (is_pointer (type_of a))
+      (given (pointer_spot ts a) (λ s. given (constant ts b) (λ n. moved_elements (size ts (target t)) (signed_type (type_of b)) false n s)))
+      (given (pointer_spot ts b) (λ s. given (constant ts a) (λ n. moved_elements (size ts (target t)) (signed_type (type_of a)) false n s)))
+  pointer_spot ts (e.binary t e.Sub a b) = given (pointer_spot ts a) (λ s. given (constant ts b) (λ n. moved_elements (size ts (target t)) (signed_type (type_of b)) true n s))
+  pointer_spot ts _ = None
+
+abbrev pub is_some : {A : Type 0} → Option A → Bool
+is_some None = false
+is_some (Some a) = true
+
+abbrev pub names_function : TExpr → Bool
+names_function (e.name (fun t) r) = true
+names_function _ = false
+
+-- the address of a function
+abbrev pub is_function_address : TExpr → Bool
+is_function_address (e.designate t a) = names_function a
+is_function_address (e.address t a) = names_function a
+is_function_address _ = false
+
+-- Rule 10 on a scalar: an integer takes a constant; a pointer takes the constant 0, the address of an object of static life
+-- or of a part of one at constant offsets, the address of a function, or a text.
+abbrev pub is_known : List Tag → CType → TExpr → Bool
+is_known ts t v =
+    (is_integer t && is_some (constant ts v)) || (is_pointer t && ((is_integer (type_of v) && is_zero ts v) || (is_some (pointer_spot ts v) || is_function_address v)))
+
+abbrev pub is_char : CType → Bool
+is_char (num Char) = true
+is_char _ = false
+
+abbrev pub is_char_array : CType → Bool
+is_char_array (arr n t) = is_char t
+is_char_array _ = false
+
+abbrev pub dimension : CType → ℕ
+dimension (arr n t) = n
+dimension _ = 0
+
+-- the types of the parts of an array or a structure
+abbrev pub part_types : List Tag → CType → List CType
+part_types ts (arr n t) = replicate n t
+part_types ts (struct k) = map (λ m. m.ty) (at_or no_tag ts k).members
+part_types ts _ = []
+
+abbrev pub is_aggregate : CType → Bool
+is_aggregate (arr n t) = true
+is_aggregate (struct k) = true
+is_aggregate _ = false
+
+-- a text for an array of char, with at most one byte more than there is room for
+abbrev pub FillsChars : CType → u.Expr → st.Init → Type 0
+FillsChars t (u.text l bs) j = (is_char_array t ≡ true) × (length bs ≤ dimension t) × (j ≡ st.bytes (bs ++ 0 ∷ []))
+FillsChars t _ j = ⊥
+
+-- a known value for a scalar
+abbrev pub BeginsScalar : Env → CType → u.Expr → st.Init → Type 0
+BeginsScalar c t a j =
+    (x : TExpr) × (v : TExpr) × (w : TExpr) × (is_scalar t ≡ true) × IsExpr c a x × (used x ≡ Is v) × (taken 10 c t v ≡ Is w) × (is_known c.tags t v ≡ true) × (j ≡ st.single w)
+
+-- Rule 10: an initialiser of static life, by the type of what it initialises. A list has at most as many parts.
+abbrev mutual
+  pub IsInit : Env → CType → ud.Init → st.Init → Type 0
+  IsInit c t (ud.single a) j = FillsChars t a j ⊎ BeginsScalar c t a j
+  IsInit c t (ud.group l is) j = (js : st.Inits) × (is_aggregate t ≡ true) × AreInits c (part_types c.tags t) is js × (j ≡ st.group js)
+
+  pub AreInits : Env → List CType → ud.Inits → st.Inits → Type 0
+  AreInits c ts ud.no_inits js = js ≡ st.no_inits
+  AreInits c [] (ud.more_inits i is) js = ⊥
+  AreInits c (t ∷ ts) (ud.more_inits i is) js = (j : st.Init) × (rest : st.Inits) × IsInit c t i j × AreInits (past (in_init j) c) ts is rest × (js ≡ st.more_inits j rest)
+
+-- an initialiser of static life that may be left out
+abbrev pub Begins : Env → CType → Option ud.Init → Option st.Init → Type 0
+Begins c t None j = j ≡ None
+Begins c t (Some i) j = (k : st.Init) × IsInit c t i k × (j ≡ Some k)
+
+-- rule 11: an automatic initialiser is for a scalar, and allowed as by rule 21
+abbrev pub IsAutoInit : Env → CType → ud.Init → TExpr → Type 0
+IsAutoInit c t (ud.single a) w = (x : TExpr) × (v : TExpr) × IsExpr c a x × (used x ≡ Is v) × (taken 11 c t v ≡ Is w)
+IsAutoInit c t (ud.group l is) w = ⊥
+
+abbrev pub count_inits : ud.Inits → ℕ
+count_inits ud.no_inits = 0
+count_inits (ud.more_inits i is) = suc (count_inits is)
+
+-- the number that an initialiser gives to a missing dimension
+abbrev pub given_by : Option ud.Init → Option ℕ
+given_by (Some (ud.single (u.text l bs))) = Some (suc (length bs))
+given_by (Some (ud.group l is)) = Some (count_inits is)
+given_by _ = None

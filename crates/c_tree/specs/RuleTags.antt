@@ -1,0 +1,112 @@
+-- The rules on the bodies of tags, and the types that words name outside of blocks.
+use Rattle.std.specs.Prelude.{◌≡◌, ℕ, suc, ◌+◌, ◌%◌, ◌<◌, List, [], ◌∷◌, ◌++◌, length, map, Option, Some, None, Bool, true, false, not, ◌&&◌, ◌||◌}
+use Rattle.std.specs.List.{flat_map}
+use Rattle.c_type.specs.Names.{Name, same_name, at_or, or_default}
+use Rattle.c_type.specs.declared.Kind.TheVariants.{Int}
+use Rattle.c_type.specs.declared.TagKind.TheVariants.{Struct, Enum}
+use Rattle.c_type.specs.Types.{CType, num, struct, enum, Tag, Member}
+use Rattle.c_type.specs.Sizes.{no_tag}
+use Rattle.c_tree.specs.TreeDecl as ud
+use Rattle.c_tree.specs.TreeExpr.{Expr}
+use Rattle.c_tree.specs.TExpr.{TExpr}
+use Rattle.c_tree.specs.TStmt.{Declr}
+use Rattle.c_tree.specs.TUnit as t
+use Rattle.c_tree.specs.TUnit.{Spec, Mems, Enumerator}
+use Rattle.c_tree.specs.Mentions.{in_declr, in_enumerator}
+use Rattle.c_tree.specs.RuleScope.{Is, Env, Entry, Constant, is_sized, past}
+use Rattle.c_tree.specs.RuleTypes.{is_function, spec_type}
+use Rattle.c_tree.specs.RuleDecls.{IsConstant, IsDeclr}
+use Rattle.c_tree.specs.RuleStmts.{is_free}
+
+-- tags
+
+-- one more than the value before, or 0 for the first
+abbrev pub next_value : Option ℕ → ℕ
+next_value None = 0
+next_value (Some n) = (n + 1) % 4294967296
+
+-- an enumerator's value: that of its constant, or the next one
+abbrev pub IsValued : Env → Option ℕ → Option Expr → Enumerator → Type 0
+IsValued c before None y = (y.expr ≡ None) × (y.value ≡ next_value before)
+IsValued c before (Some a) y = (v : TExpr) × IsConstant c a v y.value × (y.expr ≡ Some v)
+
+abbrev pub IsEnumerator : Env → Option ℕ → ud.En → Enumerator → Type 0
+IsEnumerator c before x y = (y.name ≡ x.name) × IsValued c before x.value y
+
+abbrev pub in_file : Entry → Env → Env
+in_file x c = record c { file = x ∷ c.file }
+
+-- the enumerators of a body, each in the scope of those before it; rule 1: each is new in the file
+abbrev pub AreEnumerators : Env → Option ℕ → List ud.En → List Enumerator → Env → Type 0
+AreEnumerators c before [] ys c' = (ys ≡ []) × (c' ≡ c)
+AreEnumerators c before (x ∷ xs) ys c' =
+    (y : Enumerator) × (rest : List Enumerator) × IsEnumerator c before x y × (is_free x.name c.file ≡ true) ×
+    AreEnumerators (in_file (record { name = x.name; meaning = Constant y.value }) (past (in_enumerator y) c)) (Some y.value) xs rest c' × (ys ≡ y ∷ rest)
+
+-- rule 7: a member is no function; rule 3: its size is known
+abbrev pub AreMembers : Env → CType → List ud.Declr → List Declr → Type 0
+AreMembers c base [] ys = ys ≡ []
+AreMembers c base (d ∷ ds) ys =
+    (y : Declr) × (rest : List Declr) × IsDeclr c None base d y × (is_function y.ty ≡ false) × (is_sized c.known y.ty ≡ true) × AreMembers (past (in_declr y) c) base ds rest × (ys ≡ y ∷ rest)
+
+abbrev pub member_of : Declr → Member
+member_of d = record { name = d.name; off = 0; ty = d.ty }
+
+-- a member without its offset
+abbrev pub bare : Member → Member
+bare m = record m { off = 0 }
+
+-- rule 7: the members of a structure have different names
+abbrev pub names_differ : List Name → Bool
+names_differ [] = true
+names_differ (x ∷ xs) = not (stands x xs) && names_differ xs
+  where
+    stands : Name → List Name → Bool
+    stands x [] = false
+    stands x (y ∷ ys) = same_name x y || stands x ys
+
+-- the tag of a structure's body: its name, which is empty where it has none, and its members
+abbrev pub IsStructTag : Tag → Option Name → List Member → Type 0
+IsStructTag r x ms = (r.name ≡ or_default [] x) × (r.kind ≡ Struct) × (map bare r.members ≡ ms) × (names_differ (map (λ m. m.name) r.members) ≡ true)
+
+-- the tag of an enumeration's body: each enumerator is a member whose offset is its value
+abbrev pub IsEnumTag : Tag → Option Name → List Enumerator → Type 0
+IsEnumTag r x es =
+    (r.name ≡ or_default [] x) × (r.kind ≡ Enum) × (r.members ≡ map (λ y. record { name = y.name; off = y.value; ty = num Int }) es)
+
+abbrev pub close : Env → Env
+close c = record c { known = suc c.known }
+
+abbrev pub tag_at : Env → Tag
+tag_at c = at_or no_tag c.tags c.known
+
+-- The type that words name outside of blocks, with the tags that they define. A body is closed behind its parts, and gets
+-- the next number. No text spells the body of a union.
+abbrev mutual
+  pub AreTypes : Env → ud.Types → Spec → CType → Env → Type 0
+  AreTypes c (ud.spec y) s base c' = (spec_type c y ≡ Is base) × (s ≡ t.plain base) × (c' ≡ c)
+  AreTypes c (ud.def d) s base c' = IsDef c d s base c'
+
+  pub IsDef : Env → ud.TagDef → Spec → CType → Env → Type 0
+  IsDef c (ud.struct l x ms) s base c' =
+      (ys : Mems) × (members : List Member) × (c1 : Env) × AreMems c ms ys members c1 × (c1.known < length c1.tags) × IsStructTag (tag_at c1) x members ×
+      (s ≡ t.struct_body c1.known ys) × (base ≡ struct c1.known) × (c' ≡ close c1)
+  IsDef c (ud.union l x ms) s base c' = ⊥
+  IsDef c (ud.enum l x es) s base c' =
+      (ys : List Enumerator) × (c1 : Env) × AreEnumerators c None es ys c1 × (c1.known < length c1.tags) × IsEnumTag (tag_at c1) x ys ×
+      (s ≡ t.enum_body c1.known ys) × (base ≡ enum c1.known) × (c' ≡ close c1)
+
+  -- the members of a body in order, without offsets
+  pub AreMems : Env → ud.Mems → Mems → List Member → Env → Type 0
+  AreMems c ud.no_mems ys members c' = (ys ≡ t.no_mems) × (members ≡ []) × (c' ≡ c)
+  AreMems c (ud.more_mems m ms) ys members c' =
+      (s : Spec) × (ds : List Declr) × (rest : Mems) × (others : List Member) × (c1 : Env) × IsMem c m s ds c1 × AreMems c1 ms rest others c' ×
+      (ys ≡ t.more_mems s ds rest) × (members ≡ map member_of ds ++ others)
+
+  pub IsMem : Env → ud.Mem → Spec → List Declr → Env → Type 0
+  IsMem c (ud.mem l y ds) s xs c' = (base : CType) × (c1 : Env) × AreTypes c y s base c1 × AreMembers c1 base ds xs × (c' ≡ past (flat_map in_declr xs) c1)
+
+-- words that may be left out mean int
+abbrev pub AreTypesOrInt : Env → Option ud.Types → Spec → CType → Env → Type 0
+AreTypesOrInt c None s base c' = (s ≡ t.plain (num Int)) × (base ≡ num Int) × (c' ≡ c)
+AreTypesOrInt c (Some y) s base c' = AreTypes c y s base c'
