@@ -1,7 +1,7 @@
 -- Characters, texts and comments: what is read is how they are written, and where nothing is read they aren't closed.
-use Rattle.std.proofs.Common.{◌≡◌, ℕ, zero, suc, ◌+◌, ◌-◌, ◌<◌, ◌≤◌, ◌⊎◌, inl, inr, List, [], ◌∷◌, ◌++◌, length, map, drop, Option, Some, None, Bool, true, false, refl, sym, ap, ◌∙◌, subst, arith, append_assoc}
+use Rattle.std.proofs.Common.{◌≡◌, ℕ, zero, suc, ◌+◌, ◌<◌, ◌≤◌, ◌⊎◌, inl, inr, List, [], ◌∷◌, ◌++◌, length, map, drop, Option, Some, None, Bool, true, false, refl, sym, ap, ◌∙◌, subst, arith, append_assoc}
 use Rattle.std.specs.Prelude.{nat_eq, ◌&&◌}
-use Rattle.std.proofs.lemmas.Bool.{and_from, and_parts, eqb-true}
+use Rattle.std.proofs.lemmas.Bool.{and_parts, eqb-true}
 use Rattle.std.proofs.lemmas.List.{append-nil, length-append}
 use Rattle.c_type.specs.Names.{pick}
 use Rattle.c_type.specs.Bytes.{begins}
@@ -90,7 +90,7 @@ item_long (plain b) = omega arith
 item_long (p.escape b) = omega arith
 item_long (code ds) = omega arith
 
-items_long : (is : List Item) → length is ≤ length (items_bytes is)
+pub items_long : (is : List Item) → length is ≤ length (items_bytes is)
 items_long [] = omega arith
 items_long (i ∷ is) =
     let a : 1 ≤ length (item_bytes i) = item_long i in
@@ -156,7 +156,7 @@ open_nil [] c e = cc
 open_nil (x ∷ xs) c e = cc
 
 -- whether a comment closes here
-abbrev closes : ℕ → List ℕ → Bool
+abbrev pub closes : ℕ → List ℕ → Bool
 closes b bs = nat_eq b 42 && begins (λ c. nat_eq c 47) bs
 
 closes_here : (b : ℕ) (bs : List ℕ) → closes b bs ≡ true → b ∷ bs ≡ 42 ∷ 47 ∷ drop 1 bs

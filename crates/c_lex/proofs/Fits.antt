@@ -1,8 +1,8 @@
 -- The first mark of the list that fits is the longest.
-use Rattle.std.proofs.Common.{◌≡◌, ℕ, zero, suc, ◌+◌, ◌<◌, ◌≤◌, ◌⊎◌, inl, inr, List, [], ◌∷◌, ◌++◌, length, take, drop, Option, Some, None, Bool, true, false, refl, sym, ap, ◌∙◌, subst, arith}
+use Rattle.std.proofs.Common.{◌≡◌, ℕ, zero, suc, ◌+◌, ◌<◌, ◌≤◌, ◌⊎◌, inl, inr, List, [], ◌∷◌, ◌++◌, length, take, drop, Some, None, Bool, true, false, refl, sym, ap, ◌∙◌, subst, arith}
 use Rattle.std.specs.Prelude.{nat_eq, nat_le, ◌&&◌, ◌||◌}
 use Rattle.std.specs.List.{starts_with}
-use Rattle.std.proofs.lemmas.Bool.{and_from, and_parts, eqb-true, eq-eqb, leb-true, cases_lt}
+use Rattle.std.proofs.lemmas.Bool.{and_parts, eqb-true, leb-true}
 use Rattle.std.proofs.lemmas.List.{take-append-drop, take_at}
 use Rattle.std.proofs.lemmas.Slice.Eq.{bytes_eq-Decides}
 use Rattle.c_type.specs.Names.{at_or, pick}
@@ -14,7 +14,7 @@ use Rattle.c_lex.specs.Reading.{mark_from, begins_comment}
 fits_is : (ts m : List ℕ) → starts_with nat_eq ts m ≡ true → ts ≡ m ++ drop (length m) ts
 fits_is ts m e = sym (take-append-drop (length m) ts) ∙ ap (λ x. x ++ drop (length m) ts) (sym ((bytes_eq-Decides m (take (length m) ts)).0 e))
 
-fits_of : (ts m rest : List ℕ) → ts ≡ m ++ rest → starts_with nat_eq ts m ≡ true
+pub fits_of : (ts m rest : List ℕ) → ts ≡ m ++ rest → starts_with nat_eq ts m ≡ true
 fits_of ts m rest e = (bytes_eq-Decides m (take (length m) ts)).1 (sym (ap (λ x. take (length m) x) e ∙ take_at m rest (length m) refl))
 
 -- each is no longer than the one before it

@@ -1,9 +1,9 @@
 -- What is read at the front of a text is a piece of it, or what is bad there.
-use Rattle.std.proofs.Common.{◌≡◌, ℕ, zero, suc, ◌+◌, ◌<◌, ◌≤◌, ◌⊎◌, inl, inr, min, List, [], ◌∷◌, ◌++◌, length, take, drop, Option, Some, None, Bool, true, false, refl, sym, ap, ◌∙◌, subst, arith, append_assoc}
-use Rattle.std.specs.Prelude.{nat_eq, nat_lt, nat_le, ◌&&◌, ◌||◌}
-use Rattle.std.proofs.lemmas.Bool.{eqb-true, ltb-true, ltb-false, and_parts, leb-true}
+use Rattle.std.proofs.Common.{◌≡◌, ℕ, ◌+◌, ◌<◌, ◌≤◌, ◌⊎◌, inl, inr, min, List, [], ◌∷◌, ◌++◌, length, take, drop, Option, Some, None, Bool, true, false, refl, sym, ap, ◌∙◌, subst, arith, append_assoc}
+use Rattle.std.specs.Prelude.{nat_eq, nat_lt, ◌||◌}
+use Rattle.std.proofs.lemmas.Bool.{eqb-true, ltb-true, ltb-false}
 use Rattle.std.proofs.lemmas.List.{take-append-drop}
-use Rattle.c_type.specs.Names.{at_or, pick}
+use Rattle.c_type.specs.Names.{pick}
 use Rattle.c_type.specs.Tokens.{Tok, int, marks}
 use Rattle.c_type.specs.Tokens as t
 use Rattle.c_type.specs.Bytes.{is_white, is_digit, begins_name, is_name_byte, is_run_byte, is_letter, begins, are}
@@ -13,9 +13,9 @@ use Rattle.c_type.specs.Falls.{IsBadByte, IsBadRun, IsTooLarge, IsOpenComment, I
 use Rattle.c_lex.specs.Reading as r
 use Rattle.c_lex.specs.Reading.{Front, found, bad_byte, too_large, open_comment, open_text, front, run_length, name_front, number_front, number_of, chr_front, text_front, other_front, comment_front, mark_front, mark_from, begins_comment, eat, ◌>>=◌}
 use Rattle.c_lex.proofs.Runs.{run_take, run_drop, run_first}
-use Rattle.c_lex.proofs.Closed.{ChrAt, chr_at, never_chr, TextAt, text_at, never_text, CommentAt, comment_at, never_comment, eat_here}
+use Rattle.c_lex.proofs.Closed.{chr_at, never_chr, text_at, never_text, comment_at, never_comment, eat_here}
 use Rattle.c_lex.proofs.Values.{NumberAt, number_at, number_read, never_number}
-use Rattle.c_lex.proofs.Fits.{First, FirstAt, NoneFits, mark_at, longest_of, no_mark}
+use Rattle.c_lex.proofs.Fits.{FirstAt, NoneFits, mark_at, longest_of, no_mark}
 
 -- A piece with that token stands at the front.
 pub record PieceAt (ts : List ℕ) (k : Option Tok) (after : List ℕ) : Type 0 where
@@ -49,7 +49,7 @@ name_at b bs e = record {
   token_is = refl;
 }
 
-run_byte : (b : ℕ) → is_digit b ≡ true → is_run_byte b ≡ true
+pub run_byte : (b : ℕ) → is_digit b ≡ true → is_run_byte b ≡ true
 run_byte b e = or_second (is_letter b) (is_digit b) e
   where
     or_second : (x y : Bool) → y ≡ true → (x || y) ≡ true
@@ -107,7 +107,7 @@ read_mark ts e bad (inl x) =
     (record { piece = mark x.i; is = longest_of ts x.i x.after x.first e; bytes_are = x.first.bytes_are; token_is = (let h : 0 + x.i ≡ x.i = omega arith in ap (λ n. Some (t.mark n)) h) })
 read_mark ts e bad (inr n) = subst (λ o. Holds ts (mark_front o)) (sym n.0) (bad n.1)
 
-comment_here : (ts inside : List ℕ) → begins_comment ts ≡ Some inside → ts ≡ 47 ∷ 42 ∷ inside
+pub comment_here : (ts inside : List ℕ) → begins_comment ts ≡ Some inside → ts ≡ 47 ∷ 42 ∷ inside
 comment_here ts inside e = here (eat 47 ts) refl e
   where
     here : (o : Option (List ℕ)) → eat 47 ts ≡ o → ◌>>=◌ {B = List ℕ} o (λ after. eat 42 after) ≡ Some inside → ts ≡ 47 ∷ 42 ∷ inside

@@ -8,3 +8,7 @@ pub mod Fits
 pub mod Fronts
 pub mod Growing
 pub mod Shows
+pub mod Apart
+pub mod Longest
+pub mod Exact
+pub mod Once

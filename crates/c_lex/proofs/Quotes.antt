@@ -1,14 +1,13 @@
 -- Items between quotes: what is read is how they are written.
-use Rattle.std.proofs.Common.{◌≡◌, ℕ, zero, suc, ◌+◌, ◌-◌, ◌*◌, ◌%◌, ◌<◌, ◌≤◌, ◌⊎◌, inl, inr, List, [], ◌∷◌, ◌++◌, length, map, Option, Some, None, Bool, true, false, refl, sym, ap, ◌∙◌, subst, arith, append_assoc}
+use Rattle.std.proofs.Common.{◌≡◌, ℕ, zero, suc, ◌+◌, ◌-◌, ◌*◌, ◌%◌, ◌<◌, ◌≤◌, ◌⊎◌, inl, inr, List, [], ◌∷◌, ◌++◌, length, Some, None, Bool, true, false, refl, sym, ap, ◌∙◌, subst, arith}
 use Rattle.std.specs.Prelude.{nat_eq, ◌||◌}
-use Rattle.std.proofs.lemmas.Bool.{and_from, and_parts, cases_Bool, eqb-true}
-use Rattle.std.proofs.lemmas.List.{append-nil, length-append}
+use Rattle.std.proofs.lemmas.Bool.{and_from, and_parts, eqb-true}
 use Rattle.c_type.specs.Names.{pick}
-use Rattle.c_type.specs.Bytes.{is_between, is_octal, is_digit, digit_value, value_from, are, begins}
+use Rattle.c_type.specs.Bytes.{is_between, is_octal, digit_value, value_from, are, begins}
 use Rattle.c_type.specs.Pieces.{Item, plain, code, item_bytes, item_value, items_bytes, IsItem, AreItems, escaped}
 use Rattle.c_type.specs.Pieces as p
 use Rattle.c_lex.proofs.Between.{between_is, is_between_of}
-use Rattle.c_lex.specs.Reading.{eat, octal_digit, octal_from, octal_by, escape, item, chr, text, text_by, ◌>>=◌}
+use Rattle.c_lex.specs.Reading.{octal_from, octal_by, escape, item}
 
 -- What is left of a text, where the octal digits at its front are taken off, up to k of them.
 pub record Digits (k : ℕ) (ts : List ℕ) : Type 0 where

@@ -1,6 +1,6 @@
 -- The longest beginning of bytes of one kind.
-use Rattle.std.proofs.Common.{◌≡◌, ℕ, zero, suc, ◌+◌, ◌-◌, ◌<◌, ◌≤◌, List, [], ◌∷◌, ◌++◌, length, take, drop, Bool, true, false, refl, sym, ap, ◌∙◌, subst, arith, add-one}
-use Rattle.std.proofs.lemmas.Bool.{and_from, and_parts}
+use Rattle.std.proofs.Common.{◌≡◌, ℕ, ◌+◌, List, [], ◌∷◌, take, drop, Bool, true, false, refl, add-one}
+use Rattle.std.proofs.lemmas.Bool.{and_from}
 use Rattle.c_type.specs.Names.{pick}
 use Rattle.c_type.specs.Bytes.{are, begins}
 use Rattle.c_lex.specs.Reading.{run_length}

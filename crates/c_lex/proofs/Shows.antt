@@ -1,10 +1,10 @@
 -- From what the code answers at the front of a text to what stands there.
-use Rattle.std.proofs.Common.{◌≡◌, ℕ, ◌<◌, List, [], ◌∷◌, length, Option, Some, None, sym, subst, arith}
+use Rattle.std.proofs.Common.{◌≡◌, ℕ, ◌<◌, List, [], ◌∷◌, length, Option, subst, arith}
 use Rattle.c_type.specs.Tokens.{Tok, Token}
-use Rattle.c_type.specs.Falls.{IsBad, IsBadByte, IsTooLarge, IsOpenComment, IsOpenText}
+use Rattle.c_type.specs.Falls.{IsBadByte, IsTooLarge, IsOpenComment, IsOpenText}
 use Rattle.c_lex.specs.declared.pieces.Fault.{Fault}
 use Rattle.c_lex.specs.declared.pieces.Fault.TheVariants.{Byte, Large, Comment, Quoted, Memory}
-use Rattle.c_lex.specs.Reading.{Front, found, bad_byte, too_large, open_comment, open_text, front}
+use Rattle.c_lex.specs.Reading.{found, front}
 use Rattle.c_lex.specs.Shown.{fault_front}
 use Rattle.c_lex.specs.Refusals.{Refuses, refusal, HasRead}
 use Rattle.c_lex.proofs.Fronts.{PieceAt, Holds, front_holds}

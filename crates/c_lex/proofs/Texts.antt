@@ -1,5 +1,5 @@
 -- Steps of reading a text.
-use Rattle.std.proofs.Common.{◌≡◌, ℕ, zero, suc, ◌+◌, ◌-◌, ◌<◌, List, [], ◌∷◌, ◌++◌, Option, Some, None, refl, sym, ap, ◌∙◌, subst, arith}
+use Rattle.std.proofs.Common.{◌≡◌, ℕ, suc, List, [], ◌∷◌, ◌++◌, Some, None, refl, sym, ap, ◌∙◌}
 use Rattle.c_lex.specs.Reading.{eat, item, text, text_by, ◌>>=◌}
 
 text_step : (m : ℕ) (bs ts : List ℕ) → text (suc m) bs ts ≡ text_by (text m) bs ts (eat 34 ts)

@@ -4,7 +4,7 @@ use Rattle.std.specs.List.{starts_with}
 use Rattle.c_type.specs.Names.{pick}
 use Rattle.c_type.specs.Tokens.{Tok, int, word, words, marks}
 use Rattle.c_type.specs.Tokens as t
-use Rattle.c_type.specs.Bytes.{is_white, is_digit, is_octal, is_hexadecimal, begins_name, is_name_byte, is_run_byte, begins, digit_value, value_from}
+use Rattle.c_type.specs.Bytes.{is_white, is_digit, is_octal, is_hexadecimal, begins_name, is_name_byte, is_run_byte, begins, digit_value}
 use Rattle.c_type.specs.Pieces.{escaped, name_or_word, word_from}
 
 infixl 10 ◌>>=◌

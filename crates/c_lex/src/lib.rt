@@ -4,6 +4,7 @@
 #![tactic(auto)]
 
 mod bytes;
+pub mod laws;
 mod marks;
 mod numbers;
 mod pieces;

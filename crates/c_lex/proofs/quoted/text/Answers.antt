@@ -1,4 +1,4 @@
-use Rattle.std.proofs.Common.{◌≡◌, ◌+◌, ◌-◌, ℕ, suc, length, sym, ap, ◌∙◌, arith, List, ◌++◌, ◌∷◌, []}
+use Rattle.std.proofs.Common.{◌≡◌, ◌+◌, ◌-◌, length, sym, ap, ◌∙◌, arith, ◌++◌, ◌∷◌, []}
 use Rattle.c_lex.specs.Reading.{text}
 use Rattle.c_lex.proofs.Texts.{text_done, text_next}
 use Rattle.c_lex.proofs.quoted.text.Goals as goal

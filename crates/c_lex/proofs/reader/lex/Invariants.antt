@@ -1,4 +1,4 @@
-use Rattle.std.proofs.Common.{◌≡◌, ◌≤◌, ◌+◌, length, map}
+use Rattle.std.proofs.Common.{◌≤◌, ◌+◌, length, map}
 use Rattle.c_lex.specs.Shown.{token_of}
 use Rattle.c_lex.specs.Refusals.{HasRead}
 use Rattle.c_lex.proofs.reader.lex.Given as goal
