@@ -1,0 +1,16 @@
+pub mod SeparatedAgain
+pub mod SeparatedTakes
+pub mod DeclrAgain
+pub mod InitAgain
+pub mod SpecsAgain
+pub mod BodiesAgain
+pub mod DeclAgain
+pub mod OutsideAgain
+pub mod DeclrTakes
+pub mod InitTakes
+pub mod SpecsTakes
+pub mod BodiesTakes
+pub mod DeclTakes
+pub mod OutsideTakes
+pub mod Expressions
+pub mod Joined

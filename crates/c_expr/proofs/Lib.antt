@@ -1,0 +1,9 @@
+pub mod Taken
+pub mod Fronts
+pub mod Takes
+pub mod Levels
+pub mod ExprTakes
+pub mod Marks
+pub mod TypeAgain
+pub mod ExprAgain
+pub mod Joined

@@ -1,0 +1,49 @@
+//! Expressions of sixteen levels: from tokens to their tree.
+//!
+//! Between the spellings of a tree and a reader of tokens stands a reading function on lists of tokens.
+//! Three laws join them, each the contract of a function that does nothing.
+#![tactic(auto)]
+
+mod typedefs;
+
+ghost use Rattle.c_expr.specs.Laws.{IsOneReading, IsSpelled, IsRead};
+
+pub use typedefs::Typedefs;
+
+/// At most one expression of a level spells tokens up to where it may end.
+pub fn one_reading()
+    ensures law { IsOneReading }
+{
+    // The law is all that is promised.
+}
+
+/// What the reading function gives is spelled by the tokens, and is no deeper than the greatest depth.
+pub fn what_is_read_is_spelled()
+    ensures law { IsSpelled }
+{
+    // The law is all that is promised.
+}
+
+/// What tokens spell up to where it may end is what the reading function gives.
+pub fn what_is_spelled_is_read()
+    ensures law { IsRead }
+{
+    // The law is all that is promised.
+}
+
+#[cfg(test)]
+mod tests {
+    use super::*;
+    use num_le::Name;
+    use std::test::Fail;
+
+    #[test]
+    fn a_typedef_name_is_found(rt: HostRuntime) -> Result<(), Fail> {
+        let mut defs = Typedefs::new(rt.alloc());
+        assert!(rt; !defs.has(b"word"));
+        defs.add(Name::of(rt.alloc(), b"word")?)?;
+        assert!(rt; defs.has(b"word"));
+        assert!(rt; !defs.has(b"words"));
+        Ok(())
+    }
+}

@@ -1,0 +1,5 @@
+pub mod StmtAgain
+pub mod UnitAgain
+pub mod StmtTakes
+pub mod UnitTakes
+pub mod Joined

@@ -1,0 +1,3 @@
+pub mod ReadStmt
+pub mod ReadUnit
+pub mod Laws
