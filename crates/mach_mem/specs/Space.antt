@@ -46,6 +46,24 @@ unfoldable pub with_number : Space → ℕ → ℕ → Space
 with_number m at v =
     with_byte (with_byte (with_byte (with_byte m at (v % 256)) (at + 1) (v / 256 % 256)) (at + 2) (v / 65536 % 256)) (at + 3) (v / 16777216)
 
+-- an address where two bytes can be written
+unfoldable pub is_writable2 : Space → ℕ → Bool
+is_writable2 m at = is_writable m at && is_writable m (at + 1)
+
+-- the memory with this number in the two bytes here, the lowest first
+unfoldable pub with_number16 : Space → ℕ → ℕ → Space
+with_number16 m at v = with_byte (with_byte m at (v % 256)) (at + 1) (v / 256)
+
+-- the number in two bytes, the lowest first, where both are there
+abbrev pub number16_of : Option ℕ → Option ℕ → Option ℕ
+number16_of None b = None
+number16_of (Some a) None = None
+number16_of (Some a) (Some b) = Some (a + 256 * b)
+
+-- the number in the two bytes from this address on
+abbrev pub number16_at : (ℕ → Option ℕ) → ℕ → Option ℕ
+number16_at told at = number16_of (told at) (told (at + 1))
+
 -- the number in four bytes, the lowest first, where all four are there
 abbrev pub number_of : Option ℕ → Option ℕ → Option ℕ → Option ℕ → Option ℕ
 number_of None b c d = None

@@ -4,7 +4,7 @@
 mod mem;
 mod regions;
 
-pub use mem::{Mem, read32};
+pub use mem::{Mem, read16, read32};
 pub use regions::Regions;
 
 #[cfg(test)]

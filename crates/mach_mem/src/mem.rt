@@ -1,8 +1,8 @@
 // Memory that can be read.
 ghost use Rattle.std.specs.Prelude.{◌≡◌, ◌≤◌, ◌^◌, ℕ, Option, None};
-ghost use Rattle.mach_mem.specs.Space.{number_at};
+ghost use Rattle.mach_mem.specs.Space.{number_at, number16_at};
 
-use num_le::get32;
+use num_le::{get16, get32};
 
 /// Bytes by their addresses.
 ///
@@ -16,6 +16,15 @@ pub trait Mem {
     /// The byte at this address; `None` exactly outside the regions.
     fn read8(&self, at: u32) -> Option<u8>
         ensures byte { result ≡ told self.now at };
+}
+
+/// The number in the two bytes from this address on, the lowest first; `None` exactly where one of
+/// them lies outside the regions.
+pub fn read16<M: Mem>(m: &M, at: u32) -> Option<u16>
+    ensures number { result ≡ number16_at (M.told m.now) at }
+{
+    let bytes = [m.read8(at)?, m.read8(at.checked_add(1)?)?];
+    Some(get16(&bytes, 0))
 }
 
 /// The number in the four bytes from this address on, the lowest first; `None` exactly where one of

@@ -1,6 +1,6 @@
 // The regions of a program.
 ghost use Rattle.std.specs.Prelude.{◌≡◌, ◌≤◌, ◌<◌, ◌+◌, ℕ, nat_lt, length, slice_index, slice_set, IfOk, IsTrue, IsFalse};
-ghost use Rattle.mach_mem.specs.Space.{byte_at, is_writable, is_writable4, with_byte, with_number, IsInitial, SetsByte, rounded};
+ghost use Rattle.mach_mem.specs.Space.{byte_at, is_writable, is_writable2, is_writable4, with_byte, with_number16, with_number, IsInitial, SetsByte, rounded};
 
 use crate::Mem;
 use std::alloc::{AllocError, Global};
@@ -126,6 +126,25 @@ impl Regions {
         } else {
             false
         }
+    }
+
+    /// Writes a number into two bytes, the lowest first; false, with nothing changed, exactly where
+    /// one of them lies outside the statics and the stack.
+    #[tactic(auto, unfolding(crate::specs::Space::is_writable2, crate::specs::Space::with_number16))]
+    pub fn write16(&mut self, at: u32, v: u16) -> bool
+        ensures answer { result ≡ is_writable2 self.old at }
+        ensures wrote { IsTrue result → self.new ≡ with_number16 self.old at v }
+        ensures refused { IsFalse result → self.new ≡ self.old }
+    {
+        let Some(last) = at.checked_add(1) else {
+            return false;
+        };
+        let can = self.can_write(at) && self.can_write(last);
+        if can {
+            self.write8(at, (v % 256) as u8);
+            self.write8(last, (v / 256) as u8);
+        }
+        can
     }
 
     /// Writes a number into four bytes, the lowest first; false, with nothing changed, exactly where
