@@ -1,13 +1,13 @@
 // One instruction.
 ghost use Rattle.std.specs.Prelude.{◌≡◌, ◌<◌, ◌≤◌};
-ghost use Rattle.mach_exec.specs.Step.{executed, stepped, text_from};
+ghost use Rattle.mach_exec.specs.Effect.{Outcome, outcome};
+ghost use Rattle.mach_exec.specs.Step.{text_from, decided, stepped, Steps};
 
-use crate::code::{Dec, Ins, decode};
+use crate::execute::execute;
+use isa_dec::{Dec, decode};
 use mach_mem::Regions;
 
 const TEXT: u32 = 0x10000;
-
-const ESP: usize = 4;
 
 /// The registers and flags.
 #[derive(Drop)]
@@ -35,8 +35,8 @@ pub enum Event {
     Trap,
     /// A system call: eip is past it, and nothing else has changed.
     System,
-    /// This signal: 4 where the bytes are no instruction, 11 where .text ends or a byte can't be
-    /// written. Nothing has changed.
+    /// This signal, with nothing changed: 4 for bytes that are no instruction, 8 for a division that has
+    /// no quotient of 32 bits, 11 for memory that can't be fetched, read or written.
     Signal(u8),
 }
 
@@ -52,25 +52,11 @@ fn bytes_from(mem: &Regions, at: u32) -> &[u8]
     &text[(at - TEXT) as usize..]
 }
 
-// Pushes a number, where `next` is the address behind the instruction.
-fn push(cpu: &mut Cpu, mem: &mut Regions, v: u32, next: u32) -> Event
-    ensures event { result ≡ (executed cpu.old mem.old (Ins.Push v) next).event }
-    ensures cpu { cpu.new ≡ (executed cpu.old mem.old (Ins.Push v) next).cpu }
-    ensures mem { mem.new ≡ (executed cpu.old mem.old (Ins.Push v) next).mem }
-{
-    let top = cpu.regs[ESP].wrapping_sub(4);
-    if mem.write32(top, v) {
-        cpu.regs[ESP] = top;
-        cpu.eip = next;
-        Event::Next
-    } else {
-        Event::Signal(11)
-    }
-}
-
-/// Executes the instruction at eip. It takes no memory and always returns.
+/// Executes the instruction at eip, as the 80386 manual describes it. It takes no memory and always
+/// returns. A fault in any of its operands leaves everything as it was, a repeated one included.
 #[tactic(auto, unfolding(crate::specs::Step::stepped))]
 pub fn step(cpu: &mut Cpu, mem: &mut Regions) -> Event
+    ensures table { Steps cpu.old mem.old (outcome result cpu.new mem.new) }
     ensures event { result ≡ (stepped cpu.old mem.old).event }
     ensures cpu { cpu.new ≡ (stepped cpu.old mem.old).cpu }
     ensures mem { mem.new ≡ (stepped cpu.old mem.old).mem }
@@ -78,20 +64,9 @@ pub fn step(cpu: &mut Cpu, mem: &mut Regions) -> Event
     match decode(bytes_from(mem, cpu.eip)) {
         Dec::Short => Event::Signal(11),
         Dec::Unknown => Event::Signal(4),
-        Dec::Ins(ins, len) => {
+        Dec::Ins(i, len) => {
             let next = cpu.eip.wrapping_add(u32::from(len));
-            match ins {
-                Ins::Push(v) => push(cpu, mem, v, next),
-                Ins::Move(r, v) => {
-                    cpu.regs[r as usize] = v;
-                    cpu.eip = next;
-                    Event::Next
-                }
-                Ins::Call => {
-                    cpu.eip = next;
-                    Event::System
-                }
-            }
+            execute(cpu, mem, i, next)
         }
     }
 }

@@ -4,6 +4,8 @@ use Rattle.std.specs.Prelude.{Some, None, slice_get, option_map}
 use native.Mathlib.Numerals.{unary_clauses}
 use Rattle.std.proofs.Math.ListN.{set, length-set}
 use Rattle.mach_mem.specs.Space.{Space, IsInitial, byte_at, number_at, number_of, is_writable4, with_number}
+use Rattle.isa_dec.specs.Decoded.{decoded}
+use Rattle.mach_exec.specs.Execute.{executed}
 use Rattle.mach_exec.specs.Step.{stepped}
 use Rattle.mach_exec.specs.declared.processor.Cpu.{Cpu}
 use Rattle.mach_exec.specs.declared.processor.Event.TheVariants.{Next, Trap, System, Signal}
@@ -43,22 +45,22 @@ cpu_at eax esp eip = record { regs = eax ∷ 0 ∷ 0 ∷ 0 ∷ esp ∷ 0 ∷ 0 �
 
 first_push : (m : Space) (n : ℕ) → m.text ≡ exit_code n → length m.stack ≡ 4194304
     → stepped (cpu_at 0 0x80000000 0x10000) m ≡ record { event = Next; cpu = cpu_at 0 0x7FFFFFFC 0x10005; mem = with_number m 0x7FFFFFFC (field 4 1 (exit_code n)) }
-unfolding stepped is_writable4 with_number
+unfolding stepped decoded executed is_writable4 with_number
 first_push m n text len = rw (text, len) refl
 
 second_push : (m : Space) (n : ℕ) → m.text ≡ exit_code n → length m.stack ≡ 4194304
     → stepped (cpu_at 0 0x7FFFFFFC 0x10005) m ≡ record { event = Next; cpu = cpu_at 0 0x7FFFFFF8 0x1000A; mem = with_number m 0x7FFFFFF8 0 }
-unfolding stepped is_writable4 with_number
+unfolding stepped decoded executed is_writable4 with_number
 second_push m n text len = rw (text, len) refl
 
 move : (m : Space) (n : ℕ) → m.text ≡ exit_code n
     → stepped (cpu_at 0 0x7FFFFFF8 0x1000A) m ≡ record { event = Next; cpu = cpu_at 1 0x7FFFFFF8 0x1000F; mem = m }
-unfolding stepped
+unfolding stepped decoded executed
 move m n text = rw text refl
 
 call : (m : Space) (n : ℕ) → m.text ≡ exit_code n
     → stepped (cpu_at 1 0x7FFFFFF8 0x1000F) m ≡ record { event = System; cpu = cpu_at 1 0x7FFFFFF8 0x10016; mem = m }
-unfolding stepped
+unfolding stepped decoded executed
 call m n text = rw text refl
 
 text_stays : (m : Space) (v : ℕ) → ((with_number m 0x7FFFFFFC v).text ≡ m.text) × ((with_number m 0x7FFFFFF8 v).text ≡ m.text)
