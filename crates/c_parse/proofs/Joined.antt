@@ -1,6 +1,5 @@
 -- The laws of reading a unit.
-use Rattle.std.proofs.Common.{◌≡◌, List, subst}
-use Rattle.c_type.specs.Tokens.{Token}
+use Rattle.std.proofs.Common.{◌≡◌, subst}
 use Rattle.c_tree.specs.Reads.{ReadsTokens}
 use Rattle.c_lex.proofs.Once.{falls_once}
 use Rattle.c_decl.specs.Expression.{expression}

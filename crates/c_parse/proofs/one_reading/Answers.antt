@@ -2,4 +2,4 @@ use Rattle.c_parse.proofs.Joined as joined
 use Rattle.c_parse.proofs.one_reading.Goals as goal
 
 pub returns : goal.returns
-returns c = joined.one_reading
+returns c = record { law = joined.one_reading }

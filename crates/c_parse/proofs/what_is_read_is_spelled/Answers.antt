@@ -2,4 +2,4 @@ use Rattle.c_parse.proofs.Joined as joined
 use Rattle.c_parse.proofs.what_is_read_is_spelled.Goals as goal
 
 pub returns : goal.returns
-returns c = joined.is_spelled
+returns c = record { law = joined.is_spelled }

@@ -2,4 +2,4 @@ use Rattle.c_parse.proofs.Joined as joined
 use Rattle.c_parse.proofs.what_is_spelled_is_read.Goals as goal
 
 pub returns : goal.returns
-returns c = joined.is_read
+returns c = record { law = joined.is_read }

@@ -1,0 +1,7 @@
+pub mod Words
+pub mod Args
+pub mod Statements
+pub mod Rows
+pub mod Groups
+pub mod Printed
+pub mod Normal
