@@ -1,0 +1,11 @@
+pub mod Runs
+pub mod Ghost
+pub mod Items
+pub mod Spelled
+pub mod Code
+pub mod Agree
+pub mod Small
+pub mod Reaches
+pub mod Flows
+pub mod Laws
+pub mod Mains

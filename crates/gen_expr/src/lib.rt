@@ -1,0 +1,10 @@
+//! The code of expressions and statements, and how the machine follows the source machine.
+#![tactic(auto)]
+
+mod laws;
+mod operands;
+
+pub use laws::{
+    end_is_exit, expressions_reach, ghosts_can_go, mains_reach, statements_reach, stop_is_turn,
+};
+pub use operands::{below, load, store};
