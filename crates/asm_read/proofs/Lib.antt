@@ -1,0 +1,17 @@
+pub mod Lexed
+pub mod Scanned
+pub mod Split
+pub mod Registers
+pub mod Rows
+pub mod Fronts
+pub mod Joined
+pub mod Words
+pub mod Printed
+pub mod Again
+pub mod Inverse
+pub mod Spelled
+pub mod LineEnds
+pub mod Items
+pub mod Grouping
+pub mod Whole
+pub mod Counting

@@ -1,0 +1,11 @@
+pub mod Tokens
+pub mod Lex
+pub mod Numerals
+pub mod Arguments
+pub mod Table
+pub mod Coded
+pub mod Stmts
+pub mod Reading
+pub mod Shown
+pub mod Goes
+pub mod Laws
