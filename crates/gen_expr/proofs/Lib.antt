@@ -17,3 +17,4 @@ pub mod Framing
 pub mod Leaving
 pub mod MainRuns
 pub mod Plain
+pub mod Emitted

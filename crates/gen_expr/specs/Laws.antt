@@ -1,5 +1,5 @@
 -- The laws of the small form's code.
-use Rattle.std.specs.Prelude.{ℕ, suc, ◌≡◌, ◌+◌, ◌-◌, ◌*◌, ◌<◌, ◌≤◌, List, [], ◌∷◌, length, Some}
+use Rattle.std.specs.Prelude.{ℕ, suc, ◌≡◌, ◌+◌, ◌-◌, ◌*◌, ◌<◌, ◌≤◌, List, [], ◌∷◌, ◌++◌, length, Some}
 use Rattle.c_type.specs.declared.Kind.TheVariants.{Int}
 use Rattle.c_type.specs.Types.{num}
 use Rattle.mach_mem.specs.Space.{Space}
@@ -15,7 +15,8 @@ use Rattle.c_tree.specs.Stmts.{stmts}
 use Rattle.c_tree.specs.Calls.{rest}
 use Rattle.gen_expr.specs.Runs.{Process, Goes, Exits, advanced, ran}
 use Rattle.gen_expr.specs.Ghost.{M, process, Prog, Path}
-use Rattle.gen_expr.specs.Items.{Layout, Stands}
+use Rattle.gen_expr.specs.Items.{Item, Layout, code_from, Stands}
+use Rattle.gen_expr.specs.Emitted.{emitted, end_of, Marked}
 use Rattle.gen_expr.specs.Code.{inside, expr_code, stmts_code, func_code, start_code, temps}
 use Rattle.gen_expr.specs.Small.{IsSmall, cost}
 use Rattle.gen_expr.specs.Agree.{Ghost, Agrees}
@@ -106,3 +107,9 @@ StopsAlike =
     first_state w input ≡ Gave x s → Agrees l w p.text s [] m → m.eip ≡ a0 → m.since ≡ 0 → m.turns ≡ 0 →
     (s1 : State) → run_linked w input (acts_of no_changes) stop fuel ≡ Halt Stopped s1 →
     Reached (process m) s1.output (s1.turns - 1) (s1.turns * p.limit)
+
+-- Code stands where its bytes are, if the layout knows its starts, labels and owners, and each of its instructions has an encoding.
+abbrev pub BytesStand : Type 0
+BytesStand =
+    (p : Prog) (l : Layout) (f k : ℕ) (xs : List Item) (rest : List ℕ) (a : ℕ) → 0x10000 ≤ a → end_of a xs < 4294967296 →
+    code_from p.text a ≡ emitted l.label a xs ++ rest → Marked p l f k a xs → Stands p l f k a xs (end_of a xs)

@@ -7,5 +7,6 @@ pub mod Agree
 pub mod Small
 pub mod Reaches
 pub mod Flows
+pub mod Emitted
 pub mod Laws
 pub mod Mains

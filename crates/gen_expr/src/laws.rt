@@ -1,5 +1,5 @@
 // Laws of the code that is made for the small form.
-ghost use Rattle.gen_expr.specs.Laws.{GhostsCanGo, ExpressionsReach, StatementsReach, MainsReach, EndsAlike, StopsAlike};
+ghost use Rattle.gen_expr.specs.Laws.{GhostsCanGo, ExpressionsReach, StatementsReach, MainsReach, EndsAlike, StopsAlike, BytesStand};
 
 /// The machine with what the proof follows beside it goes as the machine alone.
 pub fn ghosts_can_go()
@@ -39,6 +39,13 @@ pub fn end_is_exit()
 /// Where a run of the source machine is stopped at a turn, the process comes to that turn with the same output.
 pub fn stop_is_turn()
     ensures law { StopsAlike }
+{
+    // The law is all that is promised.
+}
+
+/// Code stands where its bytes are.
+pub fn bytes_stand()
+    ensures law { BytesStand }
 {
     // The law is all that is promised.
 }

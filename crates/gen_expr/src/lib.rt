@@ -5,6 +5,7 @@ mod laws;
 mod operands;
 
 pub use laws::{
-    end_is_exit, expressions_reach, ghosts_can_go, mains_reach, statements_reach, stop_is_turn,
+    bytes_stand, end_is_exit, expressions_reach, ghosts_can_go, mains_reach, statements_reach,
+    stop_is_turn,
 };
 pub use operands::{below, load, store};
