@@ -1,4 +1,5 @@
 -- The arithmetic of 32 bits, and the operators on numbers.
+-- It states docs/LANGUAGE.md, sections Types, Evaluation.
 use Rattle.std.specs.Prelude.{ℕ, ◌+◌, ◌-◌, ◌*◌, ◌/◌, ◌%◌, ◌^◌, Bool, true, false, nat_lt, nat_le, nat_eq, ◌&&◌, ◌||◌, not}
 use Rattle.std.specs.Prelude.{bit_and, bit_or, bit_xor}
 use Rattle.c_type.specs.Names.{pick}
@@ -8,9 +9,11 @@ use Rattle.c_tree.specs.TExpr.{TUnary, Neg, Flip, Not, TBinary, Mul, Div, Rem, A
 unfoldable pub add32 : ℕ → ℕ → ℕ
 add32 a b = (a + b) % 4294967296
 
+-- a difference modulo 2 to the power of 32
 unfoldable pub sub32 : ℕ → ℕ → ℕ
 sub32 a b = (a + (4294967296 - b)) % 4294967296
 
+-- a product modulo 2 to the power of 32
 unfoldable pub mul32 : ℕ → ℕ → ℕ
 mul32 a b = a * b % 4294967296
 
@@ -40,6 +43,7 @@ unfoldable pub quotient : Bool → ℕ → ℕ → ℕ
 quotient true a b = signed_as (differ (is_negative a) (is_negative b)) (magnitude a / magnitude b)
 quotient false a b = a / b
 
+-- what a division leaves
 unfoldable pub remainder : Bool → ℕ → ℕ → ℕ
 remainder true a b = signed_as (is_negative a) (magnitude a % magnitude b)
 remainder false a b = a % b

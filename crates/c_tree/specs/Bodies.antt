@@ -1,4 +1,5 @@
 -- The function bodies of a whole program, and their automatic objects.
+-- It states docs/LANGUAGE.md, section Objects and places.
 use Rattle.std.specs.Prelude.{ℕ, zero, suc, List, [], ◌∷◌, ◌++◌, Option, Some, None, nat_eq, ◌&&◌, not, map}
 use Rattle.std.specs.List.{flat_map}
 use Rattle.c_type.specs.Names.{Name, same_name, pick}

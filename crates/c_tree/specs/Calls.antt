@@ -1,4 +1,5 @@
 -- Evaluation of calls.
+-- It states docs/LANGUAGE.md, section Evaluation.
 use Rattle.std.specs.Prelude.{ℕ, zero, suc, ◌+◌, ◌-◌, ◌*◌, ◌%◌, List, [], ◌∷◌, ◌++◌, length, Option, Some, None, Bool, true, false, nat_le, ◌&&◌, ◌||◌, slice_get, map}
 use Rattle.c_type.specs.declared.Kind.TheVariants as kinds
 use Rattle.c_type.specs.Names.{at_or}
@@ -18,6 +19,7 @@ use Rattle.c_tree.specs.Stmts.{Given, Rest, turn, inits, stmts, loop}
 abbrev pub stack_base : ℕ
 stack_base = 2143289344
 
+-- the base of main
 abbrev pub main_base : ℕ
 main_base = 2147483640
 
@@ -32,13 +34,16 @@ rounded c (x ∷ xs) = up_to 4 (size c.tags x.ty) + rounded c xs
 abbrev pub frame_of : Context → Func → ℕ
 frame_of c f = rounded c (autos f) + 256
 
+-- the frame of a body that is there or not
 abbrev pub frame_at : Linked → Option BodyAt → ℕ
 frame_at w None = 0
 frame_at w (Some b) = frame_of (context w b) b.func
 
+-- the frame of the body with that number
 abbrev pub frame : Linked → ℕ → ℕ
 frame w f = frame_at w (slice_get w.bodies f)
 
+-- what stands for an activation that was never made
 abbrev pub no_made : Made
 no_made = record { fun = 0; base = 0 }
 
@@ -49,9 +54,11 @@ next_base w s n (a ∷ rs) = (at_or no_made s.made a.serial).base - (frame w a.f
 
 -- Rule 4: an integer for an integer, a pointer of the same type or the constant 0 for a pointer.
 
+-- rule 4 for one argument
 abbrev pub fits_kind : CType → Arg → Bool
 fits_kind t a = (is_integer t && is_integer a.ty) || (is_pointer t && (same_type t a.ty || a.zero))
 
+-- rule 4 for a list of arguments
 abbrev pub fit : List ℕ → List Var → List Arg → Bool
 fit cs [] [] = true
 fit cs [] (a ∷ as_) = false
@@ -60,9 +67,11 @@ fit cs (v ∷ vs) (a ∷ as_) = fits_kind (shared cs v.ty) a && fit cs vs as_
 
 -- a new activation: parameters with their converted arguments, automatic objects with zero
 
+-- a parameter with its converted argument
 abbrev pub param : Context → CType → Value → Thing
 param c t v = record { size = size c.tags t; slots = record { off = 0; ty = shared c.classes t; val = converted t v } ∷ [] }
 
+-- the parameters of a call
 abbrev pub params : Context → List Var → List Arg → List Thing
 params c [] as_ = []
 params c (v ∷ vs) [] = []
@@ -82,6 +91,7 @@ entered c f g as_ base s =
       made = s.made ++ record { fun = f; base = base } ∷ [];
     }
 
+-- the chain without its latest activation
 abbrev pub drop_act : List Act → List Act
 drop_act [] = []
 drop_act (a ∷ rs) = rs
@@ -107,6 +117,7 @@ enter g r n b c as_ base s =
     choose (all_suit b.func.params as_) s
     (λ s1. choose (nat_le (stack_base + frame_of c b.func) base) s1 (λ s2. body g r c b.func (entered c n b.func as_ base s2)) (Halt Stack)) (leaves 0)
 
+-- a call of a body: rule 4 first, then the room for its frame
 abbrev pub call_body : Given → Rest → ℕ → Option BodyAt → List Arg → State → Out Value
 call_body g r n None as_ s = leaves 0 s
 call_body g r n (Some b) as_ s =
@@ -115,9 +126,11 @@ call_body g r n (Some b) as_ s =
 
 -- the library
 
+-- the type of what the library takes and gives
 abbrev pub int_type : CType
 int_type = num kinds.Int
 
+-- a parameter of the library
 abbrev pub int_var : Var
 int_var = record { name = []; ty = int_type }
 
@@ -126,6 +139,7 @@ abbrev pub library : Given → List Var → List Arg → State → (State → Ou
 library g vs as_ s go =
     choose (fit [] vs as_) s (λ s1. choose (nat_le (stack_base + 32) (next_base g.whole s1 (length as_) s1.chain)) s1 go (Halt Stack)) (leaves 4)
 
+-- the number that the first argument is
 abbrev pub first_number : List Arg → ℕ
 first_number [] = 0
 first_number (a ∷ as_) = number a.val
@@ -134,13 +148,16 @@ first_number (a ∷ as_) = number a.val
     number (Num n) = n
     number _ = 0
 
+-- `putchar`: the byte is appended and given
 abbrev pub put_byte : ℕ → State → Out Value
 put_byte n s = Gave (Num n) (record s { output = s.output ++ n ∷ [] })
 
+-- `getchar`: the next byte, or -1 at the end
 abbrev pub get_byte : List ℕ → State → Out Value
 get_byte [] s = Gave (Num 4294967295) s
 get_byte (b ∷ bs) s = Gave (Num b) (record s { input = bs })
 
+-- a call of a body or of the library
 abbrev pub call_target : Given → Rest → Target → List Arg → State → Out Value
 call_target g r (Body f) as_ s = call_body g r f (slice_get g.whole.bodies f) as_ s
 call_target g r Putchar as_ s = library g (int_var ∷ []) as_ s (put_byte (first_number as_ % 256))

@@ -1,4 +1,5 @@
 -- Constant expressions, and the constant 0.
+-- It states docs/LANGUAGE.md, section Types.
 use Rattle.std.specs.Prelude.{ℕ, ◌%◌, List, Option, Some, None, Bool, false, nat_eq, not, ◌&&◌, ◌||◌}
 use Rattle.c_type.specs.Names.{pick}
 use Rattle.c_type.specs.Kinds as k

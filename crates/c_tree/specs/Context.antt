@@ -1,4 +1,5 @@
 -- What a function's names and types stand for.
+-- It states docs/LANGUAGE.md, section Evaluation.
 use Rattle.std.specs.Prelude.{ℕ, ◌+◌, List, [], ◌∷◌, length, Option, Some, None}
 use Rattle.c_type.specs.Names.{Name, pick, at_or, same_name}
 use Rattle.c_type.specs.Types.{CType, num, void, ptr, arr, struct, union, enum, fun, Member, Tag}
@@ -115,9 +116,11 @@ text_object c k = as_static (number_in 0 c.whole.lasting (OfText c.unit k))
 abbrev pub putchar_name : Name
 putchar_name = 112 ∷ (117 ∷ (116 ∷ (99 ∷ (104 ∷ (97 ∷ (114 ∷ []))))))
 
+-- `getchar`
 abbrev pub getchar_name : Name
 getchar_name = 103 ∷ (101 ∷ (116 ∷ (99 ∷ (104 ∷ (97 ∷ (114 ∷ []))))))
 
+-- `exit`
 abbrev pub exit_name : Name
 exit_name = 101 ∷ (120 ∷ (105 ∷ (116 ∷ [])))
 

@@ -1,4 +1,5 @@
 -- Evaluation of expressions.
+-- It states docs/LANGUAGE.md, section Evaluation.
 use Rattle.std.specs.Prelude.{ℕ, List, [], ◌∷◌, Option, Some, None, Bool, true, false, not}
 use Rattle.c_type.specs.declared.Kind.TheVariants as kinds
 use Rattle.c_type.specs.Types.{CType, num, struct, union, fun, is_pointer, signed_type, target}
@@ -21,6 +22,7 @@ pub record Arg : Type 0 where
 abbrev pub Call : Type 0
 Call = Value → List Arg → State → Out Value
 
+-- the operators of one operand; a pointer has `!` alone
 abbrev pub unary_op : TUnary → Value → State → Out Value
 unary_op op (Num x) s = Gave (Num (one_number op x)) s
 unary_op Not v s = Gave (truth (not (is_true v))) s
@@ -35,11 +37,13 @@ numbers op signed _ _ s = leaves 0 s
 abbrev pub element : Context → CType → ℕ
 element c t = size c.tags (target t)
 
+-- a pointer on the left and an integer on the right: `+` and `-`
 abbrev pub pointer_first : Context → TBinary → CType → CType → Value → Value → State → Out Value
 pointer_first c Add ta tb x y s = add_to (element c ta) (signed_type tb) false x y s
 pointer_first c Sub ta tb x y s = add_to (element c ta) (signed_type tb) true x y s
 pointer_first c _ ta tb x y s = leaves 0 s
 
+-- an integer on the left and a pointer on the right: `+`
 abbrev pub pointer_second : Context → TBinary → CType → CType → Value → Value → State → Out Value
 pointer_second c Add ta tb x y s = add_to (element c tb) (signed_type ta) false y x s
 pointer_second c _ ta tb x y s = leaves 0 s
@@ -51,36 +55,43 @@ operate c op ta tb x y s =
     (λ s1. choose (is_pointer tb) s1 (two_pointers (element c ta) op x y) (pointer_first c op ta tb x y))
     (λ s1. choose (is_pointer tb) s1 (pointer_second c op ta tb x y) (numbers op (signed_type ta) x y))
 
+-- `++` adds, `--` takes off
 abbrev pub step_op : TStep → TBinary
 step_op PreInc = Add
 step_op PreDec = Sub
 step_op PostInc = Add
 step_op PostDec = Sub
 
+-- before the operand the new value is given, behind it the old one
 abbrev pub new_or_old : TStep → Value → Value → Value
 new_or_old PreInc new old = new
 new_or_old PreDec new old = new
 new_or_old PostInc new old = old
 new_or_old PostDec new old = old
 
+-- whether a type is a function
 abbrev pub is_function : CType → Bool
 is_function (fun t) = true
 is_function _ = false
 
+-- whether a type is a structure, which an assignment copies
 abbrev pub is_structure : CType → Bool
 is_structure (struct k) = true
 is_structure (union k) = true
 is_structure _ = false
 
+-- whether an expression names a member, whose address counts as pointer arithmetic
 abbrev pub is_member : TExpr → Bool
 is_member (member t e m) = true
 is_member (arrow t e m) = true
 is_member _ = false
 
+-- the place of an object that is there, at its beginning
 abbrev pub as_place : Option Object → State → Out Value
 as_place None s = leaves 0 s
 as_place (Some o) s = Gave (To o 0) s
 
+-- a pointer to a function that is there
 abbrev pub as_function : Option Target → State → Out Value
 as_function None s = leaves 0 s
 as_function (Some f) s = Gave (Fn f) s

@@ -1,4 +1,5 @@
 -- The objects of static life of a whole program, in the order of their places.
+-- It states docs/LANGUAGE.md, section Objects and places.
 use Rattle.std.specs.Prelude.{ℕ, suc, List, [], ◌∷◌, ◌++◌, length, Option, Some, None, Bool, false, nat_eq, ◌&&◌, ◌||◌}
 use Rattle.std.specs.List.{flat_map}
 use Rattle.c_type.specs.Names.{Name, same_name, pick, at_or, or_else}

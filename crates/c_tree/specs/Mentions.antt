@@ -1,4 +1,5 @@
 -- What a unit says of objects of static life, in textual order.
+-- It states docs/LANGUAGE.md, section Objects and places.
 use Rattle.std.specs.Prelude.{ℕ, List, [], ◌∷◌, ◌++◌, Option, Some, None}
 use Rattle.std.specs.List.{flat_map}
 use Rattle.c_type.specs.Names.{Name}

@@ -1,4 +1,5 @@
 -- The numbers in a typed unit are in textual order.
+-- It states docs/LANGUAGE.md, section Starts and turns.
 use Rattle.std.specs.Prelude.{◌≡◌, ℕ, suc, ◌<◌, List, [], ◌∷◌, length, ◌⊎◌, map}
 use Rattle.c_tree.specs.TUnit.{TypedUnit, Func, funcs_of}
 use Rattle.c_tree.specs.Starts.{starts}

@@ -1,4 +1,5 @@
 -- Place: the first address of each object.
+-- It states docs/LANGUAGE.md, section Objects and places.
 use Rattle.std.specs.Prelude.{ℕ, zero, suc, ◌+◌, ◌-◌, ◌*◌, List, [], ◌∷◌, length, Option, Some, None, slice_get, nat_lt, take}
 use Rattle.c_type.specs.Names.{at_or, pick}
 use Rattle.c_type.specs.Sizes.{size, up_to}

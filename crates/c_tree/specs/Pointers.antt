@@ -1,4 +1,5 @@
 -- Reading, writing, copying and pointer arithmetic, with the five rules of Leaves.
+-- It states docs/LANGUAGE.md, section Faults and the end of defined C.
 use Rattle.std.specs.Prelude.{ℕ, ◌+◌, ◌-◌, ◌*◌, ◌/◌, List, [], ◌∷◌, Option, Some, None, Bool, true, false, nat_eq, nat_lt, nat_le, ◌&&◌, ◌||◌, not}
 use Rattle.c_type.specs.Names.{pick}
 use Rattle.c_type.specs.Types.{CType, num, ptr, enum, fun}

@@ -1,4 +1,5 @@
 -- Run: the evaluation of main from the first state.
+-- It states docs/LANGUAGE.md, section Evaluation.
 use Rattle.std.specs.Prelude.{ℕ, zero, suc, ◌+◌, ◌%◌, List, [], ◌∷◌, Option, Some, None}
 use Rattle.c_type.specs.declared.Kind.TheVariants as kinds
 use Rattle.c_type.specs.Names.{Name, at_or}
@@ -21,6 +22,7 @@ use Rattle.c_tree.specs.Calls.{rest, call_target}
 abbrev pub no_call : Call
 no_call f as_ s = leaves 0 s
 
+-- the type of an array's elements
 abbrev pub element_of : CType → CType
 element_of (arr n t) = t
 element_of t = t
@@ -31,6 +33,7 @@ put_bytes c o a zero bs s = Gave (Num 0) s
 put_bytes c o a (suc n) [] s = Gave (Num 0) s
 put_bytes c o a (suc n) (b ∷ bs) s = bind (store c (num kinds.Char) (To o a) (Num (k.extend 128 b)) s) (λ v s1. put_bytes c o (a + 1) n bs s1)
 
+-- the number of an array's elements
 abbrev pub dimension : CType → ℕ
 dimension (arr n t) = n
 dimension t = 0
@@ -40,6 +43,7 @@ abbrev pub array_parts : ℕ → ℕ → ℕ → CType → List Member
 array_parts zero a step t = []
 array_parts (suc n) a step t = record { name = []; off = a; ty = t } ∷ array_parts n (a + step) step t
 
+-- the parts that a list of initialisers goes through
 abbrev pub parts : Context → CType → List Member
 parts c (arr n t) = array_parts n 0 (size c.tags t) t
 parts c (struct tag) = (at_or no_tag c.tags tag).members
@@ -57,10 +61,12 @@ abbrev mutual
   begin_parts c o a [] (more_inits i is) s = leaves 0 s
   begin_parts c o a (m ∷ ms) (more_inits i is) s = bind (begin_as c o (a + m.off) m.ty i s) (λ v s1. begin_parts c o a ms is s1)
 
+-- the objects of static life, all zero
 abbrev pub zero_statics : Linked → List Lasting → List Thing
 zero_statics w [] = []
 zero_statics w (x ∷ xs) = fresh (context_of w x.unit 0) x.ty ∷ zero_statics w xs
 
+-- one object of static life receives its initialiser, if it has one
 abbrev pub begin_static : Context → ℕ → Lasting → Option Init → State → Out Value
 begin_static c n x None s = Gave (Num 0) s
 begin_static c n x (Some i) s = begin_as c (Static n) 0 x.ty i s
@@ -70,6 +76,7 @@ abbrev pub begin_statics : Linked → ℕ → List Lasting → State → Out Val
 begin_statics w n [] s = Gave (Num 0) s
 begin_statics w n (x ∷ xs) s = bind (begin_static (context_of w x.unit 0) n x x.init s) (λ v s1. begin_statics w (suc n) xs s1)
 
+-- the state before initialisers: no activation, no output, no turn
 abbrev pub blank : Linked → List ℕ → State
 blank w input = record { chain = []; made = []; statics = zero_statics w w.lasting; input = input; output = []; turns = 0 }
 
@@ -77,9 +84,11 @@ blank w input = record { chain = []; made = []; statics = zero_statics w w.lasti
 abbrev pub first_state : Linked → List ℕ → Out Value
 first_state w input = begin_statics w 0 w.lasting (blank w input)
 
+-- `main`
 abbrev pub main_name : Name
 main_name = 109 ∷ (97 ∷ (105 ∷ (110 ∷ [])))
 
+-- the value of main as a status
 abbrev pub ended : Value → State → Out Value
 ended (Num n) s = Halt (Ended (n % 256)) s
 ended _ s = leaves 0 s
@@ -89,6 +98,7 @@ abbrev pub call_main : Given → ℕ → Option ℕ → State → Out Value
 call_main g fuel None s = leaves 0 s
 call_main g fuel (Some f) s = bind (call_target g (rest fuel g) (Body f) [] s) ended
 
+-- the run of a linked program, with anything done at turns and any fuel
 abbrev pub run_linked : Linked → List ℕ → Acts → ℕ → ℕ → Out Value
 run_linked w input act n fuel =
     bind (first_state w input) (λ v s. call_main (record { stop = n; acts = act; whole = w }) fuel (body_named 0 w.bodies main_name) s)

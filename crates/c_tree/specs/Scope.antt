@@ -1,4 +1,5 @@
 -- NameInScope: the object that a name stands for at a start.
+-- It states docs/LANGUAGE.md, section Starts and turns.
 pub use Rattle.c_tree.specs.declared.typed_unit.StartId.{StartId}
 use Rattle.std.specs.Prelude.{ℕ, suc, List, [], ◌∷◌, ◌++◌, Option, Some, None, Bool, true, false, nat_eq, ◌||◌, slice_get}
 use Rattle.c_type.specs.Names.{Name, same_name, pick, at_or, or_else}
@@ -20,14 +21,17 @@ pub record Named : Type 0 where
   pub unit : ℕ
   pub ty : CType
 
+-- one block further out
 abbrev pub outwards : Option (List (List Local)) → List Local → Option (List (List Local))
 outwards None ds = None
 outwards (Some inner) ds = Some (inner ++ ds ∷ [])
 
+-- no block yet, where the start is this one
 abbrev pub when : Bool → Option (List (List Local))
 when true = Some []
 when false = None
 
+-- whether an initialised declarator of the block is that start
 abbrev pub is_start_of : ℕ → List Local → Bool
 is_start_of n [] = false
 is_start_of n (st.auto_init d i k l a ∷ ds) = nat_eq n k || is_start_of n ds
@@ -73,10 +77,12 @@ in_block u x (st.static_ d k i ∷ ds) = pick (same_name x d.name) (Some (record
 in_block u x (st.extern_ d ∷ ds) = in_block u x ds
 in_block u x (st.function d s ∷ ds) = in_block u x ds
 
+-- the object that the innermost of the blocks gives the name
 abbrev pub in_blocks : ℕ → Name → List (List Local) → Option Named
 in_blocks u x [] = None
 in_blocks u x (ds ∷ rest) = or_else (in_block u x ds) (in_blocks u x rest)
 
+-- the parameter of that name
 abbrev pub in_params : ℕ → Name → ℕ → List Var → Option Named
 in_params u x i [] = None
 in_params u x i (v ∷ vs) = pick (same_name x v.name) (Some (record { ref = e.Param i; unit = u; ty = v.ty })) (in_params u x (suc i) vs)
@@ -89,14 +95,17 @@ items_of (tag_only s ∷ xs) = items_of xs
 items_of (object s is ∷ xs) = is ++ items_of xs
 items_of (func s f ∷ xs) = items_of xs
 
+-- the object that a static declarator at file level makes
 abbrev pub as_static : ℕ → CType → Bound → Option Named
 as_static u t (Own k) = Some (record { ref = e.Static k; unit = u; ty = t })
 as_static u t _ = None
 
+-- the static object of that name at file level
 abbrev pub in_statics : ℕ → Name → List Item → Option Named
 in_statics u x [] = None
 in_statics u x (i ∷ is) = or_else (pick (same_name x i.declr.name) (as_static u i.declr.ty i.bound) None) (in_statics u x is)
 
+-- whether an object of static life is the external of that name
 abbrev pub is_of : Name → Origin → Bool
 is_of x (OfName y) = same_name x y
 is_of x (OfUnit u k) = false
@@ -107,14 +116,17 @@ abbrev pub in_externals : Name → List Lasting → Option Named
 in_externals x [] = None
 in_externals x (o ∷ os) = pick (is_of x o.origin) (Some (record { ref = e.Ext x; unit = o.unit; ty = o.ty })) (in_externals x os)
 
+-- the object of that name in a function in which the start stands
 abbrev pub in_function : ℕ → Name → Option (List (List Local)) → Func → Option Named → Option Named
 in_function u x None f rest = rest
 in_function u x (Some ds) f rest = or_else (in_blocks u x ds) (in_params u x 0 f.params)
 
+-- the same in the functions of a file
 abbrev pub in_functions : ℕ → Name → ℕ → List Func → Option Named
 in_functions u x n [] = None
 in_functions u x n (f ∷ fs) = in_function u x (round_func n f) f (in_functions u x n fs)
 
+-- the same at a start of a unit: blocks and parameters, statics of the file, externals
 abbrev pub name_in : Linked → (unit : ℕ) → TypedUnit → (index : ℕ) → Name → Option Named
 name_in w u t n x = or_else (in_functions u x n (funcs_of t.exts)) (or_else (in_statics u x (items_of t.exts)) (in_externals x w.lasting))
 

@@ -1,4 +1,5 @@
 -- Starts: the starts of each function with their numbers and lines, in textual order.
+-- It states docs/LANGUAGE.md, section Starts and turns.
 use Rattle.std.specs.Prelude.{ℕ, ◌+◌, List, [], ◌∷◌, ◌++◌, Option, Some, None, nat_eq, map}
 use Rattle.std.specs.List.{flat_map}
 use Rattle.c_type.specs.Names.{pick}

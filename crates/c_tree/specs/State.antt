@@ -1,4 +1,5 @@
 -- The state, outcomes, turns.
+-- It states docs/LANGUAGE.md, section Evaluation.
 use Rattle.std.specs.Prelude.{ℕ, suc, List, [], ◌∷◌, Option, Some, None, Bool, true, false, nat_eq, nat_lt, ◌&&◌, ◌||◌, slice_get, slice_set}
 use Rattle.c_type.specs.Names.{pick}
 use Rattle.c_type.specs.Types.{CType, same_type}

@@ -1,4 +1,5 @@
 -- Evaluation of statements.
+-- It states docs/LANGUAGE.md, section Evaluation.
 use Rattle.std.specs.Prelude.{ℕ, ◌+◌, List, [], ◌∷◌, Option, Some, None, Bool, true, false, nat_eq, ◌||◌}
 use Rattle.c_type.specs.Types.{CType}
 use Rattle.c_tree.specs.TExpr.{TExpr}

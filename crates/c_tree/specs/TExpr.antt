@@ -1,4 +1,5 @@
 -- Typed expressions.
+-- It states docs/LANGUAGE.md, section Evaluation.
 pub use Rattle.c_tree.specs.declared.typed_expr.TUnary.{TUnary}
 pub use Rattle.c_tree.specs.declared.typed_expr.TUnary.TheVariants.{Neg, Flip, Not}
 pub use Rattle.c_tree.specs.declared.typed_expr.TBinary.{TBinary}

@@ -1,4 +1,5 @@
 -- Typed declarations in blocks, and typed statements.
+-- It states docs/LANGUAGE.md, section Evaluation.
 use Rattle.std.specs.Prelude.{ℕ, List, Bool, Option}
 use Rattle.std.specs.List.{flat_map}
 use Rattle.c_type.specs.Names.{Name}

@@ -1,4 +1,5 @@
 -- Typed units and the program.
+-- It states docs/LANGUAGE.md, section Evaluation.
 pub use Rattle.c_tree.specs.declared.typed_unit.Bound.{Bound}
 pub use Rattle.c_tree.specs.declared.typed_unit.Bound.TheVariants.{Own, Outside, Elsewhere, OwnFunction, OutsideFunction}
 use Rattle.std.specs.Prelude.{ℕ, List, [], ◌∷◌, Bool, Option}

@@ -1,4 +1,5 @@
 -- The typed trees that values of the code stand for.
+-- It states docs/LANGUAGE.md, section Evaluation.
 use Rattle.std.specs.Prelude.{ℕ, List, [], ◌∷◌, Option, Some, None, ℤ, pos, negsuc, ◌-◌, map}
 use Rattle.c_type.specs.Of.{type_of, tags_of}
 use Rattle.c_tree.specs.declared.typed_expr.Ref as r

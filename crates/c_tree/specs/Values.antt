@@ -1,4 +1,5 @@
 -- Values, objects, and why a run ends.
+-- It states docs/LANGUAGE.md, section Evaluation.
 use Rattle.std.specs.Prelude.{ℕ, zero, suc, Bool, true, false, nat_eq, ◌&&◌}
 use Rattle.c_type.specs.declared.Kind.TheVariants as kinds
 use Rattle.c_type.specs.Types.{CType, num, void, ptr, enum}
@@ -30,6 +31,7 @@ same_object (Local s i) (Local r j) = nat_eq s r && nat_eq i j
 same_object (Static k) (Local r j) = false
 same_object (Local s i) (Static j) = false
 
+-- equality of the functions that a pointer points to
 abbrev pub same_target : Target → Target → Bool
 same_target (Body f) (Body g) = nat_eq f g
 same_target Putchar Putchar = true
@@ -37,6 +39,7 @@ same_target Getchar Getchar = true
 same_target Exit Exit = true
 same_target _ _ = false
 
+-- equality of values
 abbrev pub same_value : Value → Value → Bool
 same_value (Num n) (Num m) = nat_eq n m
 same_value Null Null = true
