@@ -14,7 +14,7 @@ use Rattle.gen_expr.specs.Code.{start_code, func_code}
 use Rattle.gen_expr.specs.Mains.{IsMain}
 use Rattle.gen_expr.specs.Flows.{Respects}
 use Rattle.gen_expr.specs.Agree.{Agree, Agrees}
-use Rattle.gen_expr.specs.Laws.{Exited, EndsAlike, Reached, StopsAlike}
+use Rattle.gen_expr.specs.Laws.{Exited, ExitsAlike, Reached, StopsAlike}
 use Rattle.gen_expr.proofs.Reach.{without_ghosts, unpoked}
 use Rattle.gen_expr.proofs.MainRuns.{main_runs}
 
@@ -67,7 +67,7 @@ from_first p l w most room enough none f b is named f0 k0 a0 z j a1 e stop fuel 
     subst (λ o. Reach p (Halted p l w) m o (λ x s1 m1. ⊥)) outcome (main_runs p l w most room enough stop (acts_of no_changes) (quiet_respects p l w none) f b is fuel f0 k0 a0 z j a1 e s m st sf ag at (omega arith))
 
 -- where the source machine ends, the process exits
-pub ends_alike : EndsAlike
+pub ends_alike : ExitsAlike
 ends_alike p l w most room enough none f b is named f0 k0 a0 z j a1 e stop fuel input x s m st sf first ag at since status s1 ran_is =
     ended (from_first p l w most room enough none f b is named f0 k0 a0 z j a1 e stop fuel input x s m st sf first ag at since (Halt (Ended status) s1) ran_is)
   where

@@ -74,8 +74,8 @@ pub record Exited (start : Process) (status : ℕ) (output : List ℕ) (most : �
 
 -- Where the source machine ends with a status, the process exits with it and has its output, with at most `limit` instructions
 -- for each turn and as many before the first one.
-abbrev pub EndsAlike : Type 0
-EndsAlike =
+abbrev pub ExitsAlike : Type 0
+ExitsAlike =
     (p : Prog) (l : Layout) (w : Linked) (most : ℕ) → most ≤ p.limit → 16 ≤ most →
     ((t : ℕ) (made : List Made) (mem : Space) → p.poke t made mem ≡ mem) →
     (f : ℕ) (b : BodyAt) → IsMain w most f b → body_named 0 w.bodies main_name ≡ Some f →

@@ -1,5 +1,5 @@
 // Laws of the code that is made for the small form.
-ghost use Rattle.gen_expr.specs.Laws.{GhostsCanGo, ExpressionsReach, StatementsReach, MainsReach, EndsAlike, StopsAlike, BytesStand};
+ghost use Rattle.gen_expr.specs.Laws.{GhostsCanGo, ExpressionsReach, StatementsReach, MainsReach, ExitsAlike, StopsAlike, BytesStand};
 
 /// The machine with what the proof follows beside it goes as the machine alone.
 pub fn ghosts_can_go()
@@ -31,7 +31,7 @@ pub fn mains_reach()
 
 /// Where a run of the source machine ends, the process exits with its status and has its output.
 pub fn end_is_exit()
-    ensures law { EndsAlike }
+    ensures law { ExitsAlike }
 {
     // The law is all that is promised.
 }
