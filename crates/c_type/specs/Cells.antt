@@ -1,4 +1,5 @@
 -- Cells: the scalars of a type with their offsets.
+-- It states docs/LANGUAGE.md, section Types.
 use Rattle.std.specs.Prelude.{ℕ, zero, suc, ◌+◌, List, [], ◌∷◌, ◌++◌, Option, Some, None, nat_eq}
 use Rattle.c_type.specs.Names.{at_or, pick}
 use Rattle.c_type.specs.Types.{CType, num, void, ptr, arr, struct, union, enum, fun, Member, Tag, TagKind, Struct, Union, Enum}

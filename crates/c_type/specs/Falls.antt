@@ -1,4 +1,5 @@
 -- Which tokens a C text falls into, and its first bad place.
+-- It states docs/LANGUAGE.md, section Tokens.
 use Rattle.std.specs.Prelude.{◌≡◌, ◌⊎◌, ◌<◌, ℕ, ◌+◌, List, [], ◌∷◌, ◌++◌, Bool, true, false, ◌||◌, nat_eq, Option, Some, None}
 use Rattle.c_type.specs.Tokens.{Tok, Token, marks}
 use Rattle.c_type.specs.Bytes.{is_white, is_digit, is_run_byte, begins_name, are, begins, newlines}
@@ -9,6 +10,7 @@ abbrev pub spelled : List Piece → List ℕ → List ℕ
 spelled [] after = after
 spelled (p ∷ ps) after = piece_bytes p ++ spelled ps after
 
+-- pieces that stand one behind the other before these bytes
 abbrev pub ArePieces : List Piece → List ℕ → Type 0
 ArePieces [] after = Unit {0}
 ArePieces (p ∷ ps) after = IsPiece p (spelled ps after) × ArePieces ps after
@@ -18,6 +20,7 @@ abbrev pub line_after : ℕ → List Piece → ℕ
 line_after line [] = line
 line_after line (p ∷ ps) = line_after (line + newlines (piece_bytes p)) ps
 
+-- a token of the line before others, where there is one
 abbrev pub with_token : ℕ → Option Tok → List Token → List Token
 with_token line None ts = ts
 with_token line (Some k) ts = record { kind = k; line = line } ∷ ts
@@ -89,6 +92,7 @@ pub record IsOpenString (bytes : List ℕ) : Type 0 where
   pub bytes_are : bytes ≡ 34 ∷ inside
   pub never : (is : List Item) (after : List ℕ) → AreItems 34 is (34 ∷ after) → inside ≡ items_bytes is ++ 34 ∷ after → ⊥
 
+-- a character or a text that isn't closed
 abbrev pub IsOpenText : List ℕ → Type 0
 IsOpenText bytes = IsOpenChar bytes ⊎ IsOpenString bytes
 

@@ -1,4 +1,5 @@
 -- Members by their names.
+-- It states docs/LANGUAGE.md, section Types.
 use Rattle.std.specs.Prelude.{ℕ, List, [], ◌∷◌, Option, Some, None}
 use Rattle.c_type.specs.Names.{Name, same_name, pick, at_or}
 use Rattle.c_type.specs.Types.{Member, Tag}

@@ -19,10 +19,12 @@ pick false a b = b
 abbrev pub at_or : {A : Type 0} → A → List A → ℕ → A
 at_or d xs k = slice_index_or xs k d
 
+-- the first of two that is there
 abbrev pub or_else : {A : Type 0} → Option A → Option A → Option A
 or_else None b = b
 or_else (Some a) b = Some a
 
+-- what is there, or another
 abbrev pub or_default : {A : Type 0} → A → Option A → A
 or_default d None = d
 or_default d (Some a) = a

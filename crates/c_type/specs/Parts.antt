@@ -1,9 +1,11 @@
 -- What the search for a cell keeps on its way from a type to the parts that it holds by value.
+-- It states docs/LANGUAGE.md, section Types.
 use Rattle.std.specs.Prelude.{◌≡◌, ◌<◌, ℕ, List, [], ◌∷◌, Bool, true, false, Option, Some, None}
 use Rattle.c_type.specs.Types.{CType, num, void, ptr, arr, struct, union, enum, fun, Tag, Member}
 use Rattle.c_type.specs.Sizes.{size, IsWithin}
 use Rattle.c_type.specs.Cells.{Cell, cells, cell_from, joined, table_from}
 
+-- whether a type is an array
 abbrev pub is_array : CType → Bool
 is_array (num k) = false
 is_array void = false

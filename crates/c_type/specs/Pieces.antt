@@ -1,4 +1,5 @@
 -- The pieces of which a C text is written: white bytes, comments and tokens.
+-- It states docs/LANGUAGE.md, section Tokens.
 use Rattle.std.specs.Prelude.{◌≡◌, ◌⊎◌, ◌<◌, ◌≤◌, ℕ, ◌%◌, ◌+◌, List, [], ◌∷◌, ◌++◌, length, map, Bool, true, false, Option, Some, None, nat_eq}
 use Rattle.c_type.specs.Names.{at_or, pick, same_name}
 use Rattle.c_type.specs.Tokens.{Tok, Token, int, word, words, marks}
@@ -11,6 +12,7 @@ pub data Item : Type 0 where
   escape : (b : ℕ) → Item
   code : (digits : List ℕ) → Item
 
+-- the bytes of an item
 abbrev pub item_bytes : Item → List ℕ
 item_bytes (plain b) = b ∷ []
 item_bytes (escape b) = 92 ∷ b ∷ []
@@ -21,6 +23,7 @@ abbrev pub escaped : ℕ → ℕ
 escaped b =
     pick (nat_eq b 110) 10 (pick (nat_eq b 116) 9 (pick (nat_eq b 98) 8 (pick (nat_eq b 114) 13 (pick (nat_eq b 102) 12 (pick (nat_eq b 118) 11 b)))))
 
+-- the byte that an item stands for
 abbrev pub item_value : Item → ℕ
 item_value (plain b) = b
 item_value (escape b) = escaped b
@@ -33,10 +36,12 @@ IsItem close (escape b) after = (nat_eq b 10 ≡ false) × (is_octal b ≡ false
 IsItem close (code ds) after =
     (are is_octal ds ≡ true) × (1 ≤ length ds) × (length ds ≤ 3) × ((length ds ≡ 3) ⊎ (begins is_octal after ≡ false))
 
+-- the bytes of items, one behind the other
 abbrev pub items_bytes : List Item → List ℕ
 items_bytes [] = []
 items_bytes (i ∷ is) = item_bytes i ++ items_bytes is
 
+-- items before the closing mark, each before those behind it
 abbrev pub AreItems : (close : ℕ) → List Item → List ℕ → Type 0
 AreItems close [] after = Unit {0}
 AreItems close (i ∷ is) after = IsItem close i (items_bytes is ++ after) × AreItems close is after
@@ -47,16 +52,19 @@ pub data Number : Type 0 where
   octal : (digits : List ℕ) → Number
   hexadecimal : (x : ℕ) (digits : List ℕ) → Number
 
+-- the bytes of a number without its suffix
 abbrev pub number_bytes : Number → List ℕ
 number_bytes (decimal ds) = ds
 number_bytes (octal ds) = 48 ∷ ds
 number_bytes (hexadecimal x ds) = 48 ∷ x ∷ ds
 
+-- the value that a number spells
 abbrev pub number_value : Number → ℕ
 number_value (decimal ds) = value_from 10 0 ds
 number_value (octal ds) = value_from 8 0 ds
 number_value (hexadecimal x ds) = value_from 16 0 ds
 
+-- digits of the base; a decimal number begins with no 0, and a hexadecimal one has a digit behind its `x`
 abbrev pub IsNumber : Number → Type 0
 IsNumber (decimal ds) = (are is_digit ds ≡ true) × (begins (is_between 49 57) ds ≡ true)
 IsNumber (octal ds) = are is_octal ds ≡ true
@@ -67,6 +75,7 @@ abbrev pub suffix_bytes : Option ℕ → List ℕ
 suffix_bytes None = []
 suffix_bytes (Some l) = l ∷ []
 
+-- no suffix, or `l`, or `L`
 abbrev pub IsSuffix : Option ℕ → Type 0
 IsSuffix None = Unit {0}
 IsSuffix (Some l) = (l ≡ 108) ⊎ (l ≡ 76)
@@ -81,6 +90,7 @@ pub data Piece : Type 0 where
   text : (items : List Item) → Piece
   mark : (k : ℕ) → Piece
 
+-- the bytes of a piece
 abbrev pub piece_bytes : Piece → List ℕ
 piece_bytes (white b) = b ∷ []
 piece_bytes (comment bs) = 47 ∷ 42 ∷ (bs ++ 42 ∷ 47 ∷ [])
@@ -115,10 +125,12 @@ abbrev pub word_from : ℕ → List (List ℕ) → List ℕ → Option ℕ
 word_from k [] bs = None
 word_from k (w ∷ ws) bs = pick (same_name w bs) (Some k) (word_from (k + 1) ws bs)
 
+-- a name, or the word that it is
 abbrev pub name_or_word : List ℕ → Option ℕ → Tok
 name_or_word bs None = t.name bs
 name_or_word bs (Some k) = word k
 
+-- whether a suffix stands
 abbrev pub is_long : Option ℕ → Bool
 is_long None = false
 is_long (Some l) = true

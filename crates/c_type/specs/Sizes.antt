@@ -1,4 +1,5 @@
 -- Sizes: size, alignment and member offsets.
+-- It states docs/LANGUAGE.md, section Types.
 use Rattle.std.specs.Prelude.{◌≡◌, ℕ, ◌+◌, ◌-◌, ◌*◌, ◌/◌, min, max, List, [], ◌∷◌, length, ◌<◌}
 use Rattle.c_type.specs.Names.{at_or}
 use Rattle.c_type.specs.Kinds.{kind_size}
@@ -12,6 +13,7 @@ capped n = min n 4294967295
 unfoldable pub up_to : ℕ → ℕ → ℕ
 up_to a n = (n + (a - 1)) / a * a
 
+-- what stands for a tag that is not there
 abbrev pub no_tag : Tag
 no_tag = record { name = []; kind = Struct; members = []; size = 0; align = 1 }
 
@@ -37,6 +39,7 @@ size ts (union k) = (at_or no_tag ts k).size
 size ts (enum k) = 4
 size ts (fun t) = 0
 
+-- the alignment of a type; void and a function have 1
 abbrev pub align : List Tag → CType → ℕ
 align ts (num k) = kind_size k
 align ts void = 1
@@ -53,10 +56,12 @@ placed ts o [] = []
 placed ts o (m ∷ ms) =
     record m { off = capped (up_to (align ts m.ty) o) } ∷ placed ts (capped (capped (up_to (align ts m.ty) o) + size ts m.ty)) ms
 
+-- the offset behind the last member, before rounding
 abbrev pub end_of : List Tag → ℕ → List Member → ℕ
 end_of ts o [] = o
 end_of ts o (m ∷ ms) = end_of ts (capped (capped (up_to (align ts m.ty) o) + size ts m.ty)) ms
 
+-- the greatest alignment of the members
 abbrev pub greatest : List Tag → List Member → ℕ
 greatest ts [] = 1
 greatest ts (m ∷ ms) = max (align ts m.ty) (greatest ts ms)

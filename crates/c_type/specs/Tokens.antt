@@ -1,4 +1,5 @@
 -- The tokens of a C text as plain data, and the lists of its words and marks.
+-- It states docs/LANGUAGE.md, section Tokens.
 use Rattle.std.specs.Prelude.{ℕ, List, [], ◌∷◌, Bool, codes}
 use Rattle.c_type.specs.Names.{Name}
 
@@ -16,6 +17,7 @@ pub record Token : Type 0 where
   pub kind : Tok
   pub line : ℕ
 
+-- the words of the language; the last five stand in no production
 abbrev pub words : List (List ℕ)
 words =
     codes "auto" ∷ codes "break" ∷ codes "case" ∷ codes "char" ∷ codes "continue" ∷ codes "default" ∷ codes "do" ∷ codes "else"
@@ -23,6 +25,7 @@ words =
     ∷ codes "short" ∷ codes "sizeof" ∷ codes "static" ∷ codes "struct" ∷ codes "switch" ∷ codes "typedef" ∷ codes "unsigned"
     ∷ codes "void" ∷ codes "while" ∷ codes "asm" ∷ codes "double" ∷ codes "float" ∷ codes "goto" ∷ codes "union" ∷ []
 
+-- the marks of the language
 abbrev pub marks : List (List ℕ)
 marks =
     codes "<<=" ∷ codes ">>=" ∷ codes "++" ∷ codes "--" ∷ codes "->" ∷ codes "<<" ∷ codes ">>" ∷ codes "<=" ∷ codes ">="
