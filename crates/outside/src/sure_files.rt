@@ -29,6 +29,9 @@ impl SureFiles {
 }
 
 impl Files for SureFiles {
+    ghost use Rattle.std.specs.Prelude.{◌≡◌, ◌≤◌, None, Ok, IsErrOf};
+    ghost use Rattle.outside.specs.Causes.{Rose};
+    ghost use Rattle.outside.specs.Told.{WritesHeld};
     ghost use Rattle.outside.specs.Sure.{sure_files_held};
 
     ghost held = { sure_files_held };
@@ -45,7 +48,13 @@ impl Files for SureFiles {
         }
     }
 
-    fn write(&mut self, name: &[u8], bytes: &[u8]) -> Result<(), PutErr> {
+    fn write(&mut self, name: &[u8], bytes: &[u8]) -> Result<(), PutErr>
+        ensures content { WritesHeld (sure_files_held self.old) (sure_files_held self.new) name.now bytes.now result }
+        ensures later { 0 ≤ 0 }
+        ensures failed { IsErrOf result PutErr.Failed → Rose 0 0 }
+        ensures always { result ≡ Ok tt }
+        ensures untold { sure_files_held self.new ≡ None }
+    {
         self.written = true;
         Ok(())
     }
