@@ -1,6 +1,5 @@
 -- At most one typed declarator, initialiser and constant belongs to one that is read.
 use Rattle.std.proofs.Common.{◌≡◌, ℕ, List, [], ◌∷◌, ◌++◌, Option, Some, None, true, sym, ap, ◌∙◌, subst, inl, inr}
-use Rattle.std.specs.List.{flat_map}
 use Rattle.c_type.specs.Names.{Name}
 use Rattle.c_type.specs.Types.{CType, num, void, ptr, arr, struct, union, enum, fun}
 use Rattle.c_tree.specs.TreeExpr as u
@@ -9,10 +8,9 @@ use Rattle.c_tree.specs.TExpr.{TExpr}
 use Rattle.c_tree.specs.TStmt as st
 use Rattle.c_tree.specs.TStmt.{Declr}
 use Rattle.c_tree.specs.Constant.{constant}
-use Rattle.c_tree.specs.Mentions.{in_expr, in_init}
-use Rattle.c_tree.specs.RuleScope.{Env, past}
+use Rattle.c_tree.specs.RuleScope.{Env}
 use Rattle.c_tree.specs.RuleValues.{used, taken, is_scalar}
-use Rattle.c_tree.specs.RuleDecls.{IsConstant, IsDerived, IsDeclr, FillsChars, BeginsScalar, IsInit, AreInits, Begins, IsAutoInit, is_char_array, part_types}
+use Rattle.c_tree.specs.RuleDecls.{IsConstant, past_declr, IsDerived, IsDeclr, FillsChars, BeginsScalar, IsInit, AreInits, Begins, IsAutoInit, is_char_array, part_types}
 use Rattle.c_tree.proofs.OneExpr.{expr_one, one_of}
 
 some_or : {A : Type 0} → A → Option A → A
@@ -36,7 +34,7 @@ dims_one c m base base' (ud.name l y) x x' t t' es es' (p, q, r) (p', q', r') = 
 dims_one c m base base' (ud.array l d None) x x' t t' es es' (n, g, q, h) (n', g', q', h') = dims_one c m (arr n base) (arr n' base') d x x' t t' es es' h h'
 dims_one c m base base' (ud.array l d (Some a)) x x' t t' es es' (v, n, rest, h, k, g, q) (v', n', rest', h', k', g', q') =
     let p = dims_one c m (arr n base) (arr n' base') d x x' t t' rest rest' h h' in
-    let p1 = constant_one (past (flat_map in_expr rest) c) a v v' n n' k (subst (λ z. IsConstant (past (flat_map in_expr z) c) a v' n') (sym p.1) k') in
+    let p1 = constant_one (past_declr d c) a v v' n n' k k' in
     (p.0, q ∙ ap (λ z. z ++ v ∷ []) p.1 ∙ ap (λ z. rest' ++ z ∷ []) p1.0 ∙ sym q')
 dims_one c m base base' (ud.function l d xs) x x' t t' es es' h h' = dims_one c m (fun base) (fun base') d x x' t t' es es' h h'
 
@@ -47,8 +45,7 @@ type_one c m base (ud.name l y) x x' t t' es es' (p, q, r) (p', q', r') = q ∙ 
 type_one c m base (ud.array l d None) x x' t t' es es' (n, g, q, h) (n', g', q', h') =
     type_one c m (arr n base) d x x' t t' es es' h (subst (λ z. IsDerived c m (arr z base) d x' t' es') (sym (some_one m n n' q q')) h')
 type_one c m base (ud.array l d (Some a)) x x' t t' es es' (v, n, rest, h, k, g, q) (v', n', rest', h', k', g', q') =
-    let p = dims_one c m (arr n base) (arr n' base) d x x' t t' rest rest' h h' in
-    let p1 = constant_one (past (flat_map in_expr rest) c) a v v' n n' k (subst (λ z. IsConstant (past (flat_map in_expr z) c) a v' n') (sym p.1) k') in
+    let p1 = constant_one (past_declr d c) a v v' n n' k k' in
     type_one c m (arr n base) d x x' t t' rest rest' h (subst (λ z. IsDerived c m (arr z base) d x' t' rest') (sym p1.1) h')
 type_one c m base (ud.function l d xs) x x' t t' es es' h h' = type_one c m (fun base) d x x' t t' es es' h h'
 
@@ -85,24 +82,28 @@ no_array (enum k) p q = cc
 no_array (fun t) p q = cc
 
 mutual
-  pub init_one : (c : Env) (t : CType) (i : ud.Init) (j j' : st.Init) → IsInit c t i j → IsInit c t i j' → j ≡ j'
-  init_one c t (ud.single a) j j' (inl h) (inl h') = fills_one t a j j' h h'
-  init_one c t (ud.single a) j j' (inl h) (inr h') = absurd (no_array t (is_array t a j h) h'.3)
-  init_one c t (ud.single a) j j' (inr h) (inl h') = absurd (no_array t (is_array t a j' h') h.3)
-  init_one c t (ud.single a) j j' (inr h) (inr h') = begins_scalar_one c t a j j' h h'
-  init_one c t (ud.group l is) j j' (js, g, h, q) (js', g', h', q') = q ∙ ap st.group (inits_one c (part_types c.tags t) is js js' h h') ∙ sym q'
+  pub init_one : (c : Env) (t : CType) (i : ud.Init) (j j' : st.Init) (f f' : Env) → IsInit c t i j f → IsInit c t i j' f' → (j ≡ j') × (f ≡ f')
+  init_one c t (ud.single a) j j' f f' (inl h) (inl h') = (fills_one t a j j' h.0 h'.0, h.1 ∙ sym h'.1)
+  init_one c t (ud.single a) j j' f f' (inl h) (inr h') = absurd (no_array t (is_array t a j h.0) h'.0.3)
+  init_one c t (ud.single a) j j' f f' (inr h) (inl h') = absurd (no_array t (is_array t a j' h'.0) h.0.3)
+  init_one c t (ud.single a) j j' f f' (inr h) (inr h') = (begins_scalar_one c t a j j' h.0 h'.0, h.1 ∙ sym h'.1)
+  init_one c t (ud.group l is) j j' f f' (js, g, h, q) (js', g', h', q') =
+      let p = inits_one c (part_types c.tags t) is js js' f f' h h' in
+      (q ∙ ap st.group p.0 ∙ sym q', p.1)
 
-  pub inits_one : (c : Env) (ts : List CType) (is : ud.Inits) (js js' : st.Inits) → AreInits c ts is js → AreInits c ts is js' → js ≡ js'
-  inits_one c ts ud.no_inits js js' h h' = h ∙ sym h'
-  inits_one c [] (ud.more_inits i is) js js' h h' = absurd h
-  inits_one c (t ∷ ts) (ud.more_inits i is) js js' (j, rest, h, k, q) (j', rest', h', k', q') =
-      let p = init_one c t i j j' h h' in
-      let p1 = inits_one (past (in_init j) c) ts is rest rest' k (subst (λ z. AreInits (past (in_init z) c) ts is rest') (sym p) k') in
-      q ∙ ap (λ z. st.more_inits z rest) p ∙ ap (st.more_inits j') p1 ∙ sym q'
+  pub inits_one : (c : Env) (ts : List CType) (is : ud.Inits) (js js' : st.Inits) (f f' : Env) → AreInits c ts is js f → AreInits c ts is js' f' → (js ≡ js') × (f ≡ f')
+  inits_one c ts ud.no_inits js js' f f' h h' = (h.0 ∙ sym h'.0, h.1 ∙ sym h'.1)
+  inits_one c [] (ud.more_inits i is) js js' f f' h h' = absurd h
+  inits_one c (t ∷ ts) (ud.more_inits i is) js js' f f' (j, rest, c1, h, k, q) (j', rest', c1', h', k', q') =
+      let p = init_one c t i j j' c1 c1' h h' in
+      let p1 = inits_one c1 ts is rest rest' f f' k (subst (λ z. AreInits z ts is rest' f') (sym p.1) k') in
+      (q ∙ ap (λ z. st.more_inits z rest) p.0 ∙ ap (st.more_inits j') p1.0 ∙ sym q', p1.1)
 
-pub begins_one : (c : Env) (t : CType) (i : Option ud.Init) (j j' : Option st.Init) → Begins c t i j → Begins c t i j' → j ≡ j'
-begins_one c t None j j' h h' = h ∙ sym h'
-begins_one c t (Some i) j j' (k, h, q) (k', h', q') = q ∙ ap Some (init_one c t i k k' h h') ∙ sym q'
+pub begins_one : (c : Env) (t : CType) (i : Option ud.Init) (j j' : Option st.Init) (f f' : Env) → Begins c t i j f → Begins c t i j' f' → (j ≡ j') × (f ≡ f')
+begins_one c t None j j' f f' h h' = (h.0 ∙ sym h'.0, h.1 ∙ sym h'.1)
+begins_one c t (Some i) j j' f f' (k, h, q) (k', h', q') =
+    let p = init_one c t i k k' f f' h h' in
+    (q ∙ ap Some p.0 ∙ sym q', p.1)
 
 pub auto_init_one : (c : Env) (t : CType) (i : ud.Init) (w w' : TExpr) → IsAutoInit c t i w → IsAutoInit c t i w' → w ≡ w'
 auto_init_one c t (ud.single a) w w' (x, v, hx, q, k) (x', v', hx', q', k') =

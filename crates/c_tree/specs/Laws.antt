@@ -9,7 +9,7 @@ use Rattle.c_tree.specs.State.{State, Gave, Halt, Changes}
 use Rattle.c_tree.specs.Run.{run}
 use Rattle.c_tree.specs.RuleScope.{Env}
 use Rattle.c_tree.specs.RuleTree.{IsExpr}
-use Rattle.c_tree.specs.RuleUnit.{IsTyped, at_first}
+use Rattle.c_tree.specs.RuleUnit.{IsTyped}
 
 -- n is fuel enough for the stop number n
 abbrev pub HasFuel : Type 0
@@ -33,6 +33,6 @@ EndsAlike =
 abbrev pub OneTypedExpr : Type 0
 OneTypedExpr = (c : Env) (a : Expr) (t t' : TExpr) → IsExpr c a t → IsExpr c a t' → t ≡ t'
 
--- with the same tags, texts, bodies and declarators, at most one typed unit belongs to a unit
+-- at most one typed unit belongs to a unit
 abbrev pub OneTypedUnit : Type 0
-OneTypedUnit = (y : u.Unit) (x x' : TypedUnit) → IsTyped y x → IsTyped y x' → at_first x ≡ at_first x' → x ≡ x'
+OneTypedUnit = (y : u.Unit) (x x' : TypedUnit) → IsTyped y x → IsTyped y x' → x ≡ x'

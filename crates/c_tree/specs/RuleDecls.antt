@@ -11,9 +11,7 @@ use Rattle.c_tree.specs.TExpr.{TExpr, type_of}
 use Rattle.c_tree.specs.TStmt as st
 use Rattle.c_tree.specs.TStmt.{Declr}
 use Rattle.c_tree.specs.Constant.{constant, given, is_zero}
-use Rattle.std.specs.List.{flat_map}
-use Rattle.c_tree.specs.Mentions.{in_expr, in_init}
-use Rattle.c_tree.specs.RuleScope.{Is, Env, past}
+use Rattle.c_tree.specs.RuleScope.{Is, Env, past, past_option}
 use Rattle.c_tree.specs.RuleTypes.{declared_type}
 use Rattle.c_tree.specs.RuleValues.{used, taken, is_scalar}
 use Rattle.c_tree.specs.RuleTree.{IsExpr}
@@ -30,6 +28,13 @@ abbrev pub is_name : ud.Declr → Bool
 is_name (ud.name l x) = true
 is_name _ = false
 
+-- behind a declarator, whose dimensions stand from the inside to the outside
+abbrev pub past_declr : ud.Declr → Env → Env
+past_declr (ud.pointer l d) c = past_declr d c
+past_declr (ud.name l x) c = c
+past_declr (ud.array l d a) c = past_option a (past_declr d c)
+past_declr (ud.function l d xs) c = past_declr d c
+
 -- Rule 5: a dimension is a constant of at least 1. The outermost one may be missing where `missing` gives its number. The
 -- declarator x has the type t, where base is the type that its words give, and es are its dimensions in textual order.
 abbrev pub IsDerived : Env → Option ℕ → CType → ud.Declr → (x : Name) (t : CType) (es : List TExpr) → Type 0
@@ -37,7 +42,7 @@ IsDerived c missing base (ud.pointer l d) x t es = IsDerived c missing (ptr base
 IsDerived c missing base (ud.name l y) x t es = (x ≡ y) × (t ≡ base) × (es ≡ [])
 IsDerived c missing base (ud.array l d None) x t es = (n : ℕ) × (is_name d ≡ true) × (missing ≡ Some n) × IsDerived c missing (arr n base) d x t es
 IsDerived c missing base (ud.array l d (Some a)) x t es =
-    (v : TExpr) × (n : ℕ) × (rest : List TExpr) × IsDerived c missing (arr n base) d x t rest × IsConstant (past (flat_map in_expr rest) c) a v n ×
+    (v : TExpr) × (n : ℕ) × (rest : List TExpr) × IsDerived c missing (arr n base) d x t rest × IsConstant (past_declr d c) a v n ×
     (is_positive (type_of v) n ≡ true) × (es ≡ rest ++ v ∷ [])
 IsDerived c missing base (ud.function l d xs) x t es = IsDerived c missing (fun base) d x t es
 
@@ -158,21 +163,23 @@ abbrev pub BeginsScalar : Env → CType → u.Expr → st.Init → Type 0
 BeginsScalar c t a j =
     (x : TExpr) × (v : TExpr) × (w : TExpr) × (is_scalar t ≡ true) × IsExpr c a x × (used x ≡ Is v) × (taken 10 c t v ≡ Is w) × (is_known c.tags t v ≡ true) × (j ≡ st.single w)
 
--- Rule 10: an initialiser of static life, by the type of what it initialises. A list has at most as many parts.
+-- Rule 10: an initialiser of static life, by the type of what it initialises. A list has at most as many parts. A text that
+-- fills an array of char is no object.
 abbrev mutual
-  pub IsInit : Env → CType → ud.Init → st.Init → Type 0
-  IsInit c t (ud.single a) j = FillsChars t a j ⊎ BeginsScalar c t a j
-  IsInit c t (ud.group l is) j = (js : st.Inits) × (is_aggregate t ≡ true) × AreInits c (part_types c.tags t) is js × (j ≡ st.group js)
+  pub IsInit : Env → CType → ud.Init → st.Init → Env → Type 0
+  IsInit c t (ud.single a) j c' = (FillsChars t a j × (c' ≡ c)) ⊎ (BeginsScalar c t a j × (c' ≡ past a c))
+  IsInit c t (ud.group l is) j c' = (js : st.Inits) × (is_aggregate t ≡ true) × AreInits c (part_types c.tags t) is js c' × (j ≡ st.group js)
 
-  pub AreInits : Env → List CType → ud.Inits → st.Inits → Type 0
-  AreInits c ts ud.no_inits js = js ≡ st.no_inits
-  AreInits c [] (ud.more_inits i is) js = ⊥
-  AreInits c (t ∷ ts) (ud.more_inits i is) js = (j : st.Init) × (rest : st.Inits) × IsInit c t i j × AreInits (past (in_init j) c) ts is rest × (js ≡ st.more_inits j rest)
+  pub AreInits : Env → List CType → ud.Inits → st.Inits → Env → Type 0
+  AreInits c ts ud.no_inits js c' = (js ≡ st.no_inits) × (c' ≡ c)
+  AreInits c [] (ud.more_inits i is) js c' = ⊥
+  AreInits c (t ∷ ts) (ud.more_inits i is) js c' =
+      (j : st.Init) × (rest : st.Inits) × (c1 : Env) × IsInit c t i j c1 × AreInits c1 ts is rest c' × (js ≡ st.more_inits j rest)
 
 -- an initialiser of static life that may be left out
-abbrev pub Begins : Env → CType → Option ud.Init → Option st.Init → Type 0
-Begins c t None j = j ≡ None
-Begins c t (Some i) j = (k : st.Init) × IsInit c t i k × (j ≡ Some k)
+abbrev pub Begins : Env → CType → Option ud.Init → Option st.Init → Env → Type 0
+Begins c t None j c' = (j ≡ None) × (c' ≡ c)
+Begins c t (Some i) j c' = (k : st.Init) × IsInit c t i k c' × (j ≡ Some k)
 
 -- rule 11: an automatic initialiser is for a scalar, and allowed as by rule 21
 abbrev pub IsAutoInit : Env → CType → ud.Init → TExpr → Type 0

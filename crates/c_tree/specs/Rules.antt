@@ -2,7 +2,8 @@
 
 -- rule 1: a name is declared once in its scope, and at file level again with the same type and choice of `static`
 pub use Rattle.c_tree.specs.RuleStmts.{Declares}
-pub use Rattle.c_tree.specs.RuleUnit.{DeclaresInFile, defined}
+pub use Rattle.c_tree.specs.RuleUnit.{DeclaresInFile}
+pub use Rattle.c_tree.specs.RuleNames.{defined_in}
 -- rule 2: a name in an expression is declared before it; a called name that is not is an external function returning int
 pub use Rattle.c_tree.specs.RuleExprs.{as_expr, called_name}
 -- rule 3: a tag is defined once, with its kind; a size is needed only behind the definition
@@ -18,7 +19,7 @@ pub use Rattle.c_tree.specs.RuleTypes.{elements_are_objects}
 -- rule 6: what a function returns
 pub use Rattle.c_tree.specs.RuleTypes.{functions_return}
 -- rule 7: members have different names and are no functions
-pub use Rattle.c_tree.specs.RuleTags.{AreMembers, IsStructTag}
+pub use Rattle.c_tree.specs.RuleTags.{AreMembers, names_differ}
 -- rule 8: parameters are in the list; those that are not declared are int
 pub use Rattle.c_tree.specs.RuleUnit.{AreParameters, parameter_type, as_parameter}
 -- rule 9: constants

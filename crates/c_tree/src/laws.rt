@@ -40,7 +40,7 @@ pub fn expression_has_one_type()
     // The law is all that is promised.
 }
 
-/// A unit has at most one typed unit with the same tags, texts, bodies and declarators.
+/// A unit has at most one typed unit.
 pub fn unit_has_one_type()
     ensures law { OneTypedUnit }
 {
