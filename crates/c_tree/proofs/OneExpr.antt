@@ -7,7 +7,7 @@ use Rattle.c_tree.specs.RuleScope.{Judged, Is, Fails, Env, past, meaning_of}
 use Rattle.c_tree.specs.RuleTypes.{cast_type, sized_type}
 use Rattle.c_tree.specs.RuleValues.{scalar}
 use Rattle.c_tree.specs.RuleExprs as r
-use Rattle.c_tree.specs.RuleTree.{IsExpr, IsCalled, AreArgs}
+use Rattle.c_tree.specs.RuleTree.{IsExpr, IsCalled, AreArgs, Gives}
 
 unwrapped : {A : Type 0} → A → Judged A → A
 unwrapped a (Is b) = b
@@ -68,3 +68,6 @@ mutual
       let p2 = one_of (scalar 20) x x' v v' (expr_one c a x x' hx hx') q q' in
       let p3 = args_one (past a c) es vs vs' hvs hvs' in
       p ∙ ap (λ z. e.more_args z vs) p2 ∙ ap (e.more_args v') p3 ∙ sym p'
+
+pub gives_one : {B : Type 0} (F : TExpr → Judged B) (c : Env) (a : Expr) (b b' : B) → Gives F c a b → Gives F c a b' → b ≡ b'
+gives_one F c a b b' (x, h, q) (x', h', q') = one_of F x x' b b' (expr_one c a x x' h h') q q'

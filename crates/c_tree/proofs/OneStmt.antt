@@ -13,11 +13,12 @@ use Rattle.c_tree.specs.TStmt as st
 use Rattle.c_tree.specs.TStmt.{TStmt, TStmts, TItems, Declr, Local, LocalDecl}
 use Rattle.c_tree.specs.RuleScope.{Env, Meaning, Thing, past, past_option, started}
 use Rattle.c_tree.specs.RuleTypes.{is_function, spec_or_int}
-use Rattle.c_tree.specs.RuleValues.{used, integer, scalar, taken}
-use Rattle.c_tree.specs.RuleDecls.{past_declr, Begins, IsAutoInit}
-use Rattle.c_tree.specs.RuleStmts.{Declares, enter, leave, past_init, is_static, missing, declr_line, IsFunctionHere, IsExternHere, IsStaticHere, IsAutoHere, IsLocalBy, AreLocals, AreDecls, Place, in_loop, in_switch, IsDone, IsTest, Maybe, IsReturned, IsStmt, AreStmts, AreItems}
-use Rattle.c_tree.proofs.OneExpr.{expr_one, one_of, is_one}
-use Rattle.c_tree.proofs.OneDecl.{constant_one, declr_one, begins_one, auto_init_one}
+use Rattle.c_tree.specs.RuleValues.{used, integer, scalar}
+use Rattle.c_tree.specs.RuleDecls.{constant_of, past_declr, Begins, IsAutoInit}
+use Rattle.c_tree.specs.RuleTree.{Gives}
+use Rattle.c_tree.specs.RuleStmts.{Declares, enter, leave, past_init, is_static, missing, declr_line, IsFunctionHere, IsExternHere, IsStaticHere, IsAutoHere, IsLocalBy, AreLocals, AreDecls, Place, in_loop, in_switch, Maybe, returned, IsStmt, AreStmts, AreItems}
+use Rattle.c_tree.proofs.OneExpr.{gives_one, is_one}
+use Rattle.c_tree.proofs.OneDecl.{declr_one, begins_one, auto_init_one}
 
 pub declares_one : (c : Env) (x : Name) (m : Meaning) (d d' : Env) → Declares c x m d → Declares c x m d' → d ≡ d'
 declares_one c x m d d' h h' = h.1 ∙ sym h'.1
@@ -77,57 +78,47 @@ decls_one c (d ∷ ds) xs xs' f f' (base, ls, rest, c1, k, hl, hr, q) (base', ls
     let p2 = decls_one c1 ds rest rest' f f' hr (subst (λ y. AreDecls y ds rest' f') (sym p1.1) hr') in
     (q ∙ ap (λ y. decl_of y ∷ rest) p1.0 ∙ ap (λ y. decl_of ls' ∷ y) p2.0 ∙ sym q', p2.1)
 
-done_one : (c : Env) (a : u.Expr) (v v' : TExpr) → IsDone c a v → IsDone c a v' → v ≡ v'
-done_one c a v v' (x, hx, q) (x', hx', q') = one_of used x x' v v' (expr_one c a x x' hx hx') q q'
-
-test_one : (c : Env) (a : u.Expr) (v v' : TExpr) → IsTest c a v → IsTest c a v' → v ≡ v'
-test_one c a v v' (x, hx, q) (x', hx', q') = one_of (scalar 15) x x' v v' (expr_one c a x x' hx hx') q q'
-
-returned_one : (c : Env) (t : CType) (a : u.Expr) (w w' : TExpr) → IsReturned c t a w → IsReturned c t a w' → w ≡ w'
-returned_one c t a w w' (x, v, hx, q, k) (x', v', hx', q', k') =
-    one_of (taken 23 c t) v v' w w' (one_of used x x' v v' (expr_one c a x x' hx hx') q q') k k'
-
 maybe_one : (P : u.Expr → TExpr → Type 0) → ((a : u.Expr) (v v' : TExpr) → P a v → P a v' → v ≡ v') → (a : Option u.Expr) (v v' : Option TExpr) → Maybe P a v → Maybe P a v' → v ≡ v'
 maybe_one P one None v v' h h' = h ∙ sym h'
 maybe_one P one (Some a) v v' (w, h, q) (w', h', q') = q ∙ ap Some (one a w w' h h') ∙ sym q'
 
 mutual
   pub stmt_one : (c : Env) (p : Place) (s : us.Stmt) (t t' : TStmt) (f f' : Env) → IsStmt c p s t f → IsStmt c p s t' f' → (t ≡ t') × (f ≡ f')
-  stmt_one c p (us.expr l a) t t' f f' (v, h, q, r) (v', h', q', r') = (q ∙ ap (st.expr c.starts l) (done_one c a v v' h h') ∙ sym q', r ∙ sym r')
+  stmt_one c p (us.expr l a) t t' f f' (v, h, q, r) (v', h', q', r') = (q ∙ ap (st.expr c.starts l) (gives_one used c a v v' h h') ∙ sym q', r ∙ sym r')
   stmt_one c p (us.empty l) t t' f f' h h' = (h.0 ∙ sym h'.0, h.1 ∙ sym h'.1)
   stmt_one c p (us.if_only l a s) t t' f f' (v, x, h, k, q) (v', x', h', k', q') =
-      let e1 = test_one c a v v' h h' in
+      let e1 = gives_one (scalar 15) c a v v' h h' in
       let e2 = stmt_one (past a (started 1 c)) p s x x' f f' k k' in
       (q ∙ ap (λ y. st.if_only c.starts l y x) e1 ∙ ap (st.if_only c.starts l v') e2.0 ∙ sym q', e2.1)
   stmt_one c p (us.if_else l a s r) t t' f f' (v, x, y, c1, h, k, g, q) (v', x', y', c1', h', k', g', q') =
-      let e1 = test_one c a v v' h h' in
+      let e1 = gives_one (scalar 15) c a v v' h h' in
       let e2 = stmt_one (past a (started 1 c)) p s x x' c1 c1' k k' in
       let e3 = stmt_one c1 p r y y' f f' g (subst (λ z. IsStmt z p r y' f') (sym e2.1) g') in
       (q ∙ ap (λ z. st.if_else c.starts l z x y) e1 ∙ ap (λ z. st.if_else c.starts l v' z y) e2.0 ∙ ap (st.if_else c.starts l v' x') e3.0 ∙ sym q', e3.1)
   stmt_one c p (us.while l a s) t t' f f' (v, x, h, k, q) (v', x', h', k', q') =
-      let e1 = test_one c a v v' h h' in
+      let e1 = gives_one (scalar 15) c a v v' h h' in
       let e2 = stmt_one (past a (started 1 c)) (in_loop p) s x x' f f' k k' in
       (q ∙ ap (λ y. st.while_ c.starts l y x) e1 ∙ ap (st.while_ c.starts l v') e2.0 ∙ sym q', e2.1)
   stmt_one c p (us.do_while l s m a) t t' f f' (x, v, c1, k, h, q, r) (x', v', c1', k', h', q', r') =
       let e1 = stmt_one c (in_loop p) s x x' c1 c1' k k' in
-      let e2 = test_one c1 a v v' h (subst (λ y. IsTest y a v') (sym e1.1) h') in
+      let e2 = gives_one (scalar 15) c1 a v v' h (subst (λ y. Gives (scalar 15) y a v') (sym e1.1) h') in
       (q ∙ ap (λ y. st.do_ y.starts m x v) e1.1 ∙ ap (λ y. st.do_ c1'.starts m y v) e1.0 ∙ ap (st.do_ c1'.starts m x') e2 ∙ sym q', r ∙ ap (λ y. past a (started 1 y)) e1.1 ∙ sym r')
   stmt_one c p (us.for l a b d s) t t' f f' (v1, v2, v3, x, h1, h2, h3, k, q) (w1, w2, w3, x', g1, g2, g3, k', q') =
-      let e1 = maybe_one (IsDone c) (done_one c) a v1 w1 h1 g1 in
-      let e2 = maybe_one (IsTest (past_option a c)) (test_one (past_option a c)) b v2 w2 h2 g2 in
-      let e3 = maybe_one (IsDone (past_option b (past_option a c))) (done_one (past_option b (past_option a c))) d v3 w3 h3 g3 in
+      let e1 = maybe_one (Gives used c) (gives_one used c) a v1 w1 h1 g1 in
+      let e2 = maybe_one (Gives (scalar 15) (past_option a c)) (gives_one (scalar 15) (past_option a c)) b v2 w2 h2 g2 in
+      let e3 = maybe_one (Gives used (past_option b (past_option a c))) (gives_one used (past_option b (past_option a c))) d v3 w3 h3 g3 in
       let e4 = stmt_one (past_option d (past_option b (past_option a (started 3 c)))) (in_loop p) s x x' f f' k k' in (
         q ∙ ap (λ y. st.for_ c.starts l y v2 v3 x) e1 ∙ ap (λ y. st.for_ c.starts l w1 y v3 x) e2 ∙ ap (λ y. st.for_ c.starts l w1 w2 y x) e3 ∙ ap (st.for_ c.starts l w1 w2 w3) e4.0 ∙ sym q',
         e4.1,
       )
-  stmt_one c p (us.switch l a is) t t' f f' (x, v, js, h, k, g, z, q) (x', v', js', h', k', g', z', q') =
-      let e1 = one_of (integer 24) x x' v v' (expr_one c a x x' h h') k k' in
+  stmt_one c p (us.switch l a is) t t' f f' (v, js, h, g, z, q) (v', js', h', g', z', q') =
+      let e1 = gives_one (integer 24) c a v v' h h' in
       let e2 = items_one (past a (started 1 c)) (in_switch p) is js js' f f' g g' in
       (q ∙ ap (λ y. st.switch c.starts l y js) e1 ∙ ap (st.switch c.starts l v') e2.0 ∙ sym q', e2.1)
   stmt_one c p (us.break l) t t' f f' (g, q, r) (g', q', r') = (q ∙ sym q', r ∙ sym r')
   stmt_one c p (us.continue l) t t' f f' (g, q, r) (g', q', r') = (q ∙ sym q', r ∙ sym r')
   stmt_one c p (us.return l a) t t' f f' (v, h, q, r) (v', h', q', r') =
-      (q ∙ ap (st.return_ c.starts l) (maybe_one (IsReturned c p.result) (returned_one c p.result) a v v' h h') ∙ sym q', r ∙ sym r')
+      (q ∙ ap (st.return_ c.starts l) (maybe_one (Gives (returned c p.result) c) (gives_one (returned c p.result) c) a v v' h h') ∙ sym q', r ∙ sym r')
   stmt_one c p (us.block l ds ss m) t t' f f' (xs, ys, c1, c2, h, k, q, r) (xs', ys', c1', c2', h', k', q', r') =
       let e1 = decls_one (enter c) ds xs xs' c1 c1' h h' in
       let e2 = stmts_one c1 p ss ys ys' c2 c2' k (subst (λ y. AreStmts y p ss ys' c2') (sym e1.1) k') in
@@ -142,10 +133,10 @@ mutual
 
   items_one : (c : Env) (p : Place) (is : us.SwItems) (js js' : TItems) (f f' : Env) → AreItems c p is js f → AreItems c p is js' f' → (js ≡ js') × (f ≡ f')
   items_one c p us.no_items js js' f f' h h' = (h.0 ∙ sym h'.0, h.1 ∙ sym h'.1)
-  items_one c p (us.more_items (us.case l a) is) js js' f f' (v, n, rest, h, k, q) (v', n', rest', h', k', q') =
-      let e1 = constant_one c a v v' n n' h h' in
+  items_one c p (us.more_items (us.case l a) is) js js' f f' (m, rest, h, k, q) (m', rest', h', k', q') =
+      let e1 = gives_one (constant_of c) c a m m' h h' in
       let e2 = items_one (past a c) p is rest rest' f f' k k' in
-      (q ∙ ap (λ y. st.case_ y n rest) e1.0 ∙ ap (λ y. st.case_ v' y rest) e1.1 ∙ ap (st.case_ v' n') e2.0 ∙ sym q', e2.1)
+      (q ∙ ap (λ y. st.case_ y.expr y.bits rest) e1 ∙ ap (st.case_ m'.expr m'.bits) e2.0 ∙ sym q', e2.1)
   items_one c p (us.more_items (us.default l) is) js js' f f' (rest, k, q) (rest', k', q') =
       let e1 = items_one c p is rest rest' f f' k k' in
       (q ∙ ap st.default_ e1.0 ∙ sym q', e1.1)

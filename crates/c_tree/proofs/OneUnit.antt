@@ -16,23 +16,23 @@ use Rattle.c_tree.specs.TreeStmt.{Block}
 use Rattle.c_tree.specs.Laws.{OneTypedUnit}
 use Rattle.c_tree.specs.RuleScope.{Env, Meaning, Alias, Constant, Function, function_ref, in_scope, known, close, past_option, started}
 use Rattle.c_tree.specs.RuleTypes.{is_function, spec_type}
-use Rattle.c_tree.specs.RuleDecls.{past_declr, IsDeclr, Begins}
+use Rattle.c_tree.specs.RuleDecls.{constant_of, past_declr, IsDeclr, Begins}
 use Rattle.c_tree.specs.RuleStmts.{is_static, missing, AreDecls, AreStmts}
-use Rattle.c_tree.specs.RuleTags.{IsEnumerator, IsValued, AreEnumerators, AreMembers, AreTypes, IsDef, AreMems, IsMem, AreTypesOrInt, in_file, unplaced, member_of, constant_of}
-use Rattle.c_tree.specs.RuleUnit.{combined, DeclaresInFile, own_number, next_static, IsFunctionItem, IsElsewhere, IsOutside, IsOwn, IsItemBy, AreItems, AreAliases, AreParameters, AreParDecls, list_of, as_var, declared_in, in_body, at_body, IsBody, IsExt, at_first, AreExts}
+use Rattle.c_tree.specs.RuleTags.{IsEnumerator, IsValued, AreEnumerators, AreMembers, AreTypes, IsDef, AreMems, IsMem, AreTypesOrInt, in_file, unplaced, member_of, as_member}
+use Rattle.c_tree.specs.RuleUnit.{combined, DeclaresInFile, parameters, IsHead, own_number, next_static, IsFunctionItem, IsElsewhere, IsOutside, IsOwn, IsItemBy, AreItems, AreAliases, AreParameters, AreParDecls, list_of, in_body, at_body, IsBody, IsExt, at_first, AreExts}
 use Rattle.c_tree.specs.RuleNames.{storage_of, types_of}
-use Rattle.c_tree.proofs.OneExpr.{is_one}
+use Rattle.c_tree.proofs.OneExpr.{gives_one, is_one}
 use Rattle.c_tree.proofs.OneStmt.{decls_one, stmts_one}
-use Rattle.c_tree.proofs.OneDecl.{some_one, constant_one, declr_one, begins_one}
+use Rattle.c_tree.proofs.OneDecl.{some_one, declr_one, begins_one}
 
 abbrev enumerator : Name → ℕ → Option TExpr → Enumerator
 enumerator x n a = record { name = x; value = n; expr = a }
 
 valued_one : (c : Env) (b : Option ℕ) (a : Option Expr) (y y' : Enumerator) → IsValued c b a y → IsValued c b a y' → (y.value ≡ y'.value) × (y.expr ≡ y'.expr)
 valued_one c b None y y' h h' = (h.1 ∙ sym h'.1, h.0 ∙ sym h'.0)
-valued_one c b (Some a) y y' (v, k, q) (v', k', q') =
-    let p = constant_one c a v v' y.value y'.value k k' in
-    (p.1, q ∙ ap Some p.0 ∙ sym q')
+valued_one c b (Some a) y y' (k, g, r, q) (k', g', r', q') =
+    let p = gives_one (constant_of c) c a k k' g g' in
+    (r ∙ ap (λ z. z.bits) p ∙ sym r', q ∙ ap (λ z. Some z.expr) p ∙ sym q')
 
 enumerator_one : (c : Env) (b : Option ℕ) (x : ud.En) (y y' : Enumerator) → IsEnumerator c b x y → IsEnumerator c b x y' → y ≡ y'
 enumerator_one c b x y y' h h' =
@@ -77,7 +77,7 @@ mutual
       let p = enumerators_one c None es ys ys' c1 c1' h h' in (
         q ∙ ap (λ z. t.enum_body (known z) ys) p.1 ∙ ap (t.enum_body (known c1')) p.0 ∙ sym q',
         r ∙ ap (λ z. enum (known z)) p.1 ∙ sym r',
-        w ∙ ap (close (unplaced x Enum (map constant_of ys))) p.1 ∙ ap (λ z. close (unplaced x Enum (map constant_of z)) c1') p.0 ∙ sym w',
+        w ∙ ap (close (unplaced x Enum (map as_member ys))) p.1 ∙ ap (λ z. close (unplaced x Enum (map as_member z)) c1') p.0 ∙ sym w',
       )
 
   mems_one : (c : Env) (ms : ud.Mems) (ys ys' : Mems) (ns ns' : List Member) (f f' : Env) → AreMems c ms ys ns f → AreMems c ms ys' ns' f' → (ys ≡ ys') × (ns ≡ ns') × (f ≡ f')
@@ -194,17 +194,21 @@ bodies_equal f g a b c d p q r s t u v =
 abbrev behind : Env → Env
 behind c = record (started 1 c) { blocks = [] }
 
+head_one : (c : Env) (s : Bool) (h : ud.Declr) (d : Declr) (ps : List ud.ParDecl) (ys ys' : List ParDecl) (e e' : Env) → IsHead c s h d ps ys e → IsHead c s h d ps ys' e' → (ys ≡ ys') × (e ≡ e')
+head_one c s h d ps ys ys' e e' (c1, hp, g1, g2, hd) (c1', hp', g1', g2', hd') =
+    let p = par_decls_one c (list_of h) ps ys ys' c1 c1' hp hp' in
+    (p.0, in_file_one c1 d.name _ e e' hd (subst (λ y. DeclaresInFile y d.name (Function s (function_ref y s d.name) d.ty) e') (sym p.1) hd'))
+
 body_one : (c : Env) (s : Bool) (h : ud.Declr) (d : Declr) (ps : List ud.ParDecl) (b : Block) (f f' : Func) (e e' : Env) → IsBody c s h d ps b f e → IsBody c s h d ps b f' e' → (f ≡ f') × (e ≡ e')
-body_one c s h d ps b f f' e e' (c1, c2, c3, c4, r, n, z, hp, g1, g2, vs, hd, hl, hs, l, m, k, j, q) (c1', c2', c3', c4', r', n', z', hp', g1', g2', vs', hd', hl', hs', l', m', k', j', q') =
+body_one c s h d ps b f f' e e' (c1, c2, c3, r, hh, hl, hs, n, z, vs, l, m, k, j, q) (c1', c2', c3', r', hh', hl', hs', n', z', vs', l', m', k', j', q') =
     let er : f.result ≡ f'.result = ap target (sym r ∙ r') in
-    let p = par_decls_one c (list_of h) ps f.declared f'.declared c1 c1' hp hp' in
-    let ev : f.params ≡ f'.params = vs ∙ ap (λ y. map (as_var (declared_in y)) (list_of h)) p.0 ∙ sym vs' in
-    let p1 = in_file_one c1 d.name _ c2 c2' hd (subst (λ y. DeclaresInFile y d.name (Function s (function_ref y s d.name) d.ty) c2') (sym p.1) hd') in
-    let hl1 = subst (λ y. AreDecls (in_body f'.params y) b.decls f'.locals c3') (sym p1) hl' in
-    let p2 = decls_one (in_body f.params c2) b.decls f.locals f'.locals c3 c3' hl (subst (λ y. AreDecls (in_body y c2) b.decls f'.locals c3') (sym ev) hl1) in
-    let hs1 = subst (λ y. AreStmts y (at_body f'.result) b.stmts f'.stmts c4') (sym p2.1) hs' in
-    let p3 = stmts_one c3 (at_body f.result) b.stmts f.stmts f'.stmts c4 c4' hs (subst (λ y. AreStmts c3 (at_body y) b.stmts f'.stmts c4') (sym er) hs1) in (
-      bodies_equal f f' (n ∙ sym n') (z ∙ sym z') er ev p.0 (k ∙ ap (λ y. y.starts) p1 ∙ sym k') (l ∙ sym l') p2.0 p3.0
+    let p = head_one c s h d ps f.declared f'.declared c1 c1' hh hh' in
+    let ev : f.params ≡ f'.params = vs ∙ ap (parameters h) p.0 ∙ sym vs' in
+    let hl1 = subst (λ y. AreDecls (in_body (parameters h f'.declared) y) b.decls f'.locals c2') (sym p.1) hl' in
+    let p2 = decls_one (in_body (parameters h f.declared) c1) b.decls f.locals f'.locals c2 c2' hl (subst (λ y. AreDecls (in_body (parameters h y) c1) b.decls f'.locals c2') (sym p.0) hl1) in
+    let hs1 = subst (λ y. AreStmts y (at_body f'.result) b.stmts f'.stmts c3') (sym p2.1) hs' in
+    let p3 = stmts_one c2 (at_body f.result) b.stmts f.stmts f'.stmts c3 c3' hs (subst (λ y. AreStmts c2 (at_body y) b.stmts f'.stmts c3') (sym er) hs1) in (
+      bodies_equal f f' (n ∙ sym n') (z ∙ sym z') er ev p.0 (k ∙ ap (λ y. y.starts) p.1 ∙ sym k') (l ∙ sym l') p2.0 p3.0
           (j ∙ ap (λ y. y.starts) p3.1 ∙ sym j') (m ∙ sym m'),
       q ∙ ap behind p3.1 ∙ sym q',
     )

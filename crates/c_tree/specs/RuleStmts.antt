@@ -11,11 +11,11 @@ use Rattle.c_tree.specs.TExpr as e
 use Rattle.c_tree.specs.TExpr.{TExpr}
 use Rattle.c_tree.specs.TStmt as st
 use Rattle.c_tree.specs.TStmt.{TStmt, TStmts, TItems, Declr, Local, LocalDecl}
-use Rattle.c_tree.specs.RuleScope.{Is, Env, Entry, Meaning, Thing, Function, in_scope, function_ref, known, is_sized, past, past_option, started}
+use Rattle.c_tree.specs.RuleScope.{Judged, Is, Env, Entry, Meaning, Thing, Function, in_scope, function_ref, known, is_sized, past, past_option, started}
 use Rattle.c_tree.specs.RuleTypes.{is_function, spec_or_int, joined}
-use Rattle.c_tree.specs.RuleValues.{used, integer, scalar, taken}
-use Rattle.c_tree.specs.RuleTree.{IsExpr}
-use Rattle.c_tree.specs.RuleDecls.{IsConstant, past_declr, IsDeclr, Begins, IsAutoInit, given_by}
+use Rattle.c_tree.specs.RuleValues.{used, integer, scalar, value_for}
+use Rattle.c_tree.specs.RuleTree.{Gives}
+use Rattle.c_tree.specs.RuleDecls.{Number, IsConstant, past_declr, IsDeclr, Begins, IsAutoInit, given_by}
 
 -- scopes
 
@@ -134,22 +134,14 @@ in_loop p = record p { loop = true; breaks = true }
 abbrev pub in_switch : Place → Place
 in_switch p = record p { breaks = true }
 
--- an expression that is performed
-abbrev pub IsDone : Env → u.Expr → TExpr → Type 0
-IsDone c a v = (x : TExpr) × IsExpr c a x × (used x ≡ Is v)
-
--- rule 15: the test of a statement is a scalar
-abbrev pub IsTest : Env → u.Expr → TExpr → Type 0
-IsTest c a v = (x : TExpr) × IsExpr c a x × (scalar 15 x ≡ Is v)
-
 -- a part that may be left out
 abbrev pub Maybe : (u.Expr → TExpr → Type 0) → Option u.Expr → Option TExpr → Type 0
 Maybe Typed None v = v ≡ None
 Maybe Typed (Some a) v = (w : TExpr) × Typed a w × (v ≡ Some w)
 
 -- rule 23: a value is allowed as by rule 21 for the function's type, so none where it is void
-abbrev pub IsReturned : Env → CType → u.Expr → TExpr → Type 0
-IsReturned c t a w = (x : TExpr) × (v : TExpr) × IsExpr c a x × (used x ≡ Is v) × (taken 23 c t v ≡ Is w)
+abbrev pub returned : Env → CType → TExpr → Judged TExpr
+returned c t x = value_for 23 c t x
 
 -- rule 24: the cases of a switch differ, and it has at most one default
 
@@ -171,31 +163,31 @@ labels_differ (st.case_ a n is) = not (has_case n is) && labels_differ is
 labels_differ (st.default_ is) = not (has_default is) && labels_differ is
 labels_differ (st.more_items s is) = labels_differ is
 
--- T is the typed statement of a statement. It has the next start, and its line is the start's.
+-- T is the typed statement of a statement. It has the next start, and its line is the start's. A test is a scalar, by rule 15.
 abbrev mutual
   pub IsStmt : Env → Place → us.Stmt → TStmt → Env → Type 0
-  IsStmt c p (us.expr l a) t c' = (v : TExpr) × IsDone c a v × (t ≡ st.expr c.starts l v) × (c' ≡ past a (started 1 c))
+  IsStmt c p (us.expr l a) t c' = (v : TExpr) × Gives used c a v × (t ≡ st.expr c.starts l v) × (c' ≡ past a (started 1 c))
   IsStmt c p (us.empty l) t c' = (t ≡ st.empty c.starts l) × (c' ≡ started 1 c)
   IsStmt c p (us.if_only l a s) t c' =
-      (v : TExpr) × (x : TStmt) × IsTest c a v × IsStmt (past a (started 1 c)) p s x c' × (t ≡ st.if_only c.starts l v x)
+      (v : TExpr) × (x : TStmt) × Gives (scalar 15) c a v × IsStmt (past a (started 1 c)) p s x c' × (t ≡ st.if_only c.starts l v x)
   IsStmt c p (us.if_else l a s r) t c' =
-      (v : TExpr) × (x : TStmt) × (y : TStmt) × (c1 : Env) × IsTest c a v × IsStmt (past a (started 1 c)) p s x c1 × IsStmt c1 p r y c' ×
+      (v : TExpr) × (x : TStmt) × (y : TStmt) × (c1 : Env) × Gives (scalar 15) c a v × IsStmt (past a (started 1 c)) p s x c1 × IsStmt c1 p r y c' ×
       (t ≡ st.if_else c.starts l v x y)
   IsStmt c p (us.while l a s) t c' =
-      (v : TExpr) × (x : TStmt) × IsTest c a v × IsStmt (past a (started 1 c)) (in_loop p) s x c' × (t ≡ st.while_ c.starts l v x)
+      (v : TExpr) × (x : TStmt) × Gives (scalar 15) c a v × IsStmt (past a (started 1 c)) (in_loop p) s x c' × (t ≡ st.while_ c.starts l v x)
   IsStmt c p (us.do_while l s m a) t c' =
-      (x : TStmt) × (v : TExpr) × (c1 : Env) × IsStmt c (in_loop p) s x c1 × IsTest c1 a v × (t ≡ st.do_ c1.starts m x v) × (c' ≡ past a (started 1 c1))
+      (x : TStmt) × (v : TExpr) × (c1 : Env) × IsStmt c (in_loop p) s x c1 × Gives (scalar 15) c1 a v × (t ≡ st.do_ c1.starts m x v) × (c' ≡ past a (started 1 c1))
   IsStmt c p (us.for l a b d s) t c' =
-      (v1 : Option TExpr) × (v2 : Option TExpr) × (v3 : Option TExpr) × (x : TStmt) × Maybe (IsDone c) a v1 × Maybe (IsTest (past_option a c)) b v2 ×
-      Maybe (IsDone (past_option b (past_option a c))) d v3 × IsStmt (past_option d (past_option b (past_option a (started 3 c)))) (in_loop p) s x c' ×
+      (v1 : Option TExpr) × (v2 : Option TExpr) × (v3 : Option TExpr) × (x : TStmt) × Maybe (Gives used c) a v1 × Maybe (Gives (scalar 15) (past_option a c)) b v2 ×
+      Maybe (Gives used (past_option b (past_option a c))) d v3 × IsStmt (past_option d (past_option b (past_option a (started 3 c)))) (in_loop p) s x c' ×
       (t ≡ st.for_ c.starts l v1 v2 v3 x)
   IsStmt c p (us.switch l a is) t c' =
-      (x : TExpr) × (v : TExpr) × (js : TItems) × IsExpr c a x × (integer 24 x ≡ Is v) × AreItems (past a (started 1 c)) (in_switch p) is js c' ×
+      (v : TExpr) × (js : TItems) × Gives (integer 24) c a v × AreItems (past a (started 1 c)) (in_switch p) is js c' ×
       (labels_differ js ≡ true) × (t ≡ st.switch c.starts l v js)
   IsStmt c p (us.break l) t c' = (p.breaks ≡ true) × (t ≡ st.break_ c.starts l) × (c' ≡ started 1 c)
   IsStmt c p (us.continue l) t c' = (p.loop ≡ true) × (t ≡ st.continue_ c.starts l) × (c' ≡ started 1 c)
   IsStmt c p (us.return l a) t c' =
-      (v : Option TExpr) × Maybe (IsReturned c p.result) a v × (t ≡ st.return_ c.starts l v) × (c' ≡ past_option a (started 1 c))
+      (v : Option TExpr) × Maybe (Gives (returned c p.result) c) a v × (t ≡ st.return_ c.starts l v) × (c' ≡ past_option a (started 1 c))
   IsStmt c p (us.block l ds ss m) t c' =
       (xs : List LocalDecl) × (ys : TStmts) × (c1 : Env) × (c2 : Env) × AreDecls (enter c) ds xs c1 × AreStmts c1 p ss ys c2 × (t ≡ st.block l xs ys m) ×
       (c' ≡ leave c c2)
@@ -209,7 +201,7 @@ abbrev mutual
   pub AreItems : Env → Place → us.SwItems → TItems → Env → Type 0
   AreItems c p us.no_items js c' = (js ≡ st.no_items) × (c' ≡ c)
   AreItems c p (us.more_items (us.case l a) is) js c' =
-      (v : TExpr) × (n : ℕ) × (rest : TItems) × IsConstant c a v n × AreItems (past a c) p is rest c' × (js ≡ st.case_ v n rest)
+      (k : Number) × (rest : TItems) × IsConstant c a k × AreItems (past a c) p is rest c' × (js ≡ st.case_ k.expr k.bits rest)
   AreItems c p (us.more_items (us.default l) is) js c' = (rest : TItems) × AreItems c p is rest c' × (js ≡ st.default_ rest)
   AreItems c p (us.more_items (us.stmt s) is) js c' =
       (x : TStmt) × (rest : TItems) × (c1 : Env) × IsStmt c p s x c1 × AreItems c1 p is rest c' × (js ≡ st.more_items x rest)

@@ -7,13 +7,12 @@ use Rattle.c_type.specs.declared.TagKind.TheVariants.{Struct, Enum}
 use Rattle.c_type.specs.Types.{CType, num, struct, enum, Tag, Member}
 use Rattle.c_tree.specs.TreeDecl as ud
 use Rattle.c_tree.specs.TreeExpr.{Expr}
-use Rattle.c_tree.specs.TExpr.{TExpr}
 use Rattle.c_tree.specs.TStmt.{Declr}
 use Rattle.c_tree.specs.TUnit as t
 use Rattle.c_tree.specs.TUnit.{Spec, Mems, Enumerator}
 use Rattle.c_tree.specs.RuleScope.{Is, Env, Entry, Constant, known, is_sized, close, past_option}
 use Rattle.c_tree.specs.RuleTypes.{is_function, spec_type}
-use Rattle.c_tree.specs.RuleDecls.{IsConstant, past_declr, IsDeclr}
+use Rattle.c_tree.specs.RuleDecls.{Number, IsConstant, past_declr, IsDeclr}
 use Rattle.c_tree.specs.RuleStmts.{is_free}
 
 -- tags
@@ -26,7 +25,7 @@ next_value (Some n) = (n + 1) % 4294967296
 -- an enumerator's value: that of its constant, or the next one
 abbrev pub IsValued : Env → Option ℕ → Option Expr → Enumerator → Type 0
 IsValued c before None y = (y.expr ≡ None) × (y.value ≡ next_value before)
-IsValued c before (Some a) y = (v : TExpr) × IsConstant c a v y.value × (y.expr ≡ Some v)
+IsValued c before (Some a) y = (k : Number) × IsConstant c a k × (y.value ≡ k.bits) × (y.expr ≡ Some k.expr)
 
 abbrev pub IsEnumerator : Env → Option ℕ → ud.En → Enumerator → Type 0
 IsEnumerator c before x y = (y.name ≡ x.name) × IsValued c before x.value y
@@ -65,8 +64,8 @@ abbrev pub unplaced : Option Name → TagKind → List Member → Tag
 unplaced x kind ms = record { name = or_default [] x; kind = kind; members = ms; size = 0; align = 1 }
 
 -- an enumerator is a member whose offset is its value
-abbrev pub constant_of : Enumerator → Member
-constant_of y = record { name = y.name; off = y.value; ty = num Int }
+abbrev pub as_member : Enumerator → Member
+as_member y = record { name = y.name; off = y.value; ty = num Int }
 
 -- The type that words name outside of blocks, with the tags that they define. A body is closed behind its parts, and gets
 -- the next number. No text spells the body of a union.
@@ -82,7 +81,7 @@ abbrev mutual
   IsDef c (ud.union l x ms) s base c' = ⊥
   IsDef c (ud.enum l x es) s base c' =
       (ys : List Enumerator) × (c1 : Env) × AreEnumerators c None es ys c1 ×
-      (s ≡ t.enum_body (known c1) ys) × (base ≡ enum (known c1)) × (c' ≡ close (unplaced x Enum (map constant_of ys)) c1)
+      (s ≡ t.enum_body (known c1) ys) × (base ≡ enum (known c1)) × (c' ≡ close (unplaced x Enum (map as_member ys)) c1)
 
   -- the members of a body in order, without offsets
   pub AreMems : Env → ud.Mems → Mems → List Member → Env → Type 0

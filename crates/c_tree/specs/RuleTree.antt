@@ -6,7 +6,7 @@ use Rattle.c_type.specs.Types.{CType, num, arr}
 use Rattle.c_tree.specs.TreeExpr.{Expr, Exprs, comma, assign, choice, binary, unary, size_of, size_of_type, cast, index, call, member, arrow, post, name, int, chr, text, no_exprs, more_exprs}
 use Rattle.c_tree.specs.TExpr as e
 use Rattle.c_tree.specs.TExpr.{TExpr, TArgs, type_of}
-use Rattle.c_tree.specs.RuleScope.{Is, onward, Env, past, meaning_of}
+use Rattle.c_tree.specs.RuleScope.{Judged, Is, onward, Env, past, meaning_of}
 use Rattle.c_tree.specs.RuleTypes.{cast_type, sized_type}
 use Rattle.c_tree.specs.RuleValues.{scalar}
 use Rattle.c_tree.specs.RuleExprs as r
@@ -40,3 +40,7 @@ abbrev mutual
   pub AreArgs : Env → Exprs → TArgs → Type 0
   AreArgs c no_exprs ys = ys ≡ e.no_args
   AreArgs c (more_exprs a es) ys = (x : TExpr) × (v : TExpr) × (vs : TArgs) × IsExpr c a x × (scalar 20 x ≡ Is v) × AreArgs (past a c) es vs × (ys ≡ e.more_args v vs)
+
+-- a rule on typed expressions gives b for an expression
+abbrev pub Gives : {B : Type 0} → (TExpr → Judged B) → Env → Expr → B → Type 0
+Gives rule c a b = (x : TExpr) × IsExpr c a x × (rule x ≡ Is b)

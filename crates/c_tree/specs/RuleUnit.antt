@@ -163,14 +163,26 @@ in_body vs c = record (started 1 c) { blocks = parameter_scope 0 vs ∷ []; auto
 abbrev pub at_body : CType → Place
 at_body r = record { loop = false; breaks = false; result = r }
 
--- Rule 1: the names of the list differ, and each is declared once. The parameters and the outermost block are one scope.
+-- the parameters of a function with the names of its list
+abbrev pub parameters : ud.Declr → List ParDecl → List Var
+parameters h ys = map (as_var (declared_in ys)) (list_of h)
+
+-- rule 1: the names of a function's list differ, and each is declared once
+abbrev pub names_of : List ParDecl → List Name
+names_of ys = map (λ y. y.name) (declared_in ys)
+
+-- the head of a function d with the declarations ys of its parameters, which stand before its own name is in scope
+abbrev pub IsHead : Env → Bool → ud.Declr → Declr → List ud.ParDecl → List ParDecl → Env → Type 0
+IsHead c s h d ps ys c' =
+    (c1 : Env) × AreParDecls c (list_of h) ps ys c1 × (names_differ (list_of h) ≡ true) × (names_differ (names_of ys) ≡ true) ×
+    DeclaresInFile c1 d.name (Function s (function_ref c1 s d.name) d.ty) c'
+
+-- A function with its body. The parameters and the outermost block are one scope.
 abbrev pub IsBody : Env → Bool → ud.Declr → Declr → List ud.ParDecl → Block → Func → Env → Type 0
 IsBody c s h d ps b f c' =
-    (c1 : Env) × (c2 : Env) × (c3 : Env) × (c4 : Env) × (d.ty ≡ fun f.result) × (f.name ≡ d.name) × (f.is_static ≡ s) ×
-    AreParDecls c (list_of h) ps f.declared c1 × (names_differ (list_of h) ≡ true) × (names_differ (map (λ y. y.name) (declared_in f.declared)) ≡ true) ×
-    (f.params ≡ map (as_var (declared_in f.declared)) (list_of h)) × DeclaresInFile c1 d.name (Function s (function_ref c1 s d.name) d.ty) c2 ×
-    AreDecls (in_body f.params c2) b.decls f.locals c3 × AreStmts c3 (at_body f.result) b.stmts f.stmts c4 ×
-    (f.line ≡ b.line) × (f.close_line ≡ b.close_line) × (f.open_ ≡ c2.starts) × (f.close ≡ c4.starts) × (c' ≡ record (started 1 c4) { blocks = [] })
+    (c1 : Env) × (c2 : Env) × (c3 : Env) × (d.ty ≡ fun f.result) × IsHead c s h d ps f.declared c1 × AreDecls (in_body (parameters h f.declared) c1) b.decls f.locals c2 ×
+    AreStmts c2 (at_body f.result) b.stmts f.stmts c3 × (f.name ≡ d.name) × (f.is_static ≡ s) × (f.params ≡ parameters h f.declared) ×
+    (f.line ≡ b.line) × (f.close_line ≡ b.close_line) × (f.open_ ≡ c1.starts) × (f.close ≡ c3.starts) × (c' ≡ record (started 1 c3) { blocks = [] })
 
 -- units
 

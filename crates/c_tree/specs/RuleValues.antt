@@ -100,3 +100,7 @@ is_taken c t w =
 -- rule 21: what a place of type t takes, or what takes it as by that rule
 abbrev pub taken : (rule : ℕ) → Env → CType → TExpr → Judged TExpr
 taken n c t w = provided n (is_taken c t w) (Is (to_type t w))
+
+-- an expression as the value of a place of that type, by the rule of what takes it
+abbrev pub value_for : (rule : ℕ) → Env → CType → TExpr → Judged TExpr
+value_for n c t x = onward (used x) (taken n c t)
