@@ -13,6 +13,9 @@ pub mod Seen
 mod MachineRows
 mod LeavesRows
 mod EvaluationRows
+mod ApartStmt
+mod ApartUnit
+mod RuleNumbers
 mod RuleRows
 mod UnitTyped
 pub mod OneExpr

@@ -21,7 +21,7 @@ unfolding some_or
 some_one o a b p q = ap (some_or a) (sym p ∙ q)
 
 -- a declarator's name and dimensions do not depend on the type that its words give
-dims_one : (c : Env) (m : Option ℕ) (base base' : CType) (d : ud.Declr) (x x' : Name) (t t' : CType) (es es' : List TExpr) →
+pub dims_one : (c : Env) (m : Option ℕ) (base base' : CType) (d : ud.Declr) (x x' : Name) (t t' : CType) (es es' : List TExpr) →
     IsDerived c m base d x t es → IsDerived c m base' d x' t' es' → (x ≡ x') × (es ≡ es')
 dims_one c m base base' (ud.pointer l d) x x' t t' es es' h h' = dims_one c m (ptr base) (ptr base') d x x' t t' es es' h h'
 dims_one c m base base' (ud.name l y) x x' t t' es es' (p, q, r) (p', q', r') = (p ∙ sym p', r ∙ sym r')
@@ -32,7 +32,7 @@ dims_one c m base base' (ud.array l d (Some a)) x x' t t' es es' (k, rest, h, g,
     (p.0, q ∙ ap (λ z. z ++ k.expr ∷ []) p.1 ∙ ap (λ z. rest' ++ z.expr ∷ []) p1 ∙ sym q')
 dims_one c m base base' (ud.function l d xs) x x' t t' es es' h h' = dims_one c m (fun base) (fun base') d x x' t t' es es' h h'
 
-type_one : (c : Env) (m : Option ℕ) (base : CType) (d : ud.Declr) (x x' : Name) (t t' : CType) (es es' : List TExpr) →
+pub type_one : (c : Env) (m : Option ℕ) (base : CType) (d : ud.Declr) (x x' : Name) (t t' : CType) (es es' : List TExpr) →
     IsDerived c m base d x t es → IsDerived c m base d x' t' es' → t ≡ t'
 type_one c m base (ud.pointer l d) x x' t t' es es' h h' = type_one c m (ptr base) d x x' t t' es es' h h'
 type_one c m base (ud.name l y) x x' t t' es es' (p, q, r) (p', q', r') = q ∙ sym q'

@@ -29,17 +29,17 @@ function_one c s d i x x' f f' (a, h, q) (a', h', q') = (q ∙ sym q', h.1 ∙ s
 extern_one : (c : Env) (d : Declr) (i : Option ud.Init) (x x' : Local) (f f' : Env) → IsExternHere c d i x f → IsExternHere c d i x' f' → (x ≡ x') × (f ≡ f')
 extern_one c d i x x' f f' (a, h, q) (a', h', q') = (q ∙ sym q', h.1 ∙ sym h'.1)
 
-abbrev one_static : Env → Env
-one_static c = record c { statics = suc c.statics }
+abbrev pub with_statics : ℕ → Env → Env
+with_statics n c = record c { statics = n }
 
 abbrev one_auto : Env → Env
 one_auto c = record c { autos = suc c.autos }
 
 static_one : (c : Env) (d : Declr) (i : Option ud.Init) (x x' : Local) (f f' : Env) → IsStaticHere c d i x f → IsStaticHere c d i x' f' → (x ≡ x') × (f ≡ f')
-static_one c d i x x' f f' (j, c1, z, h, b, q) (j', c1', z', h', b', q') =
+static_one c d i x x' f f' (j, c1, c2, z, h, b, q, r) (j', c1', c2', z', h', b', q', r') =
     let p = declares_one c d.name (Thing (e.Static c.statics) d.ty) c1 c1' h h' in
-    let p1 = begins_one (one_static c1) d.ty i j j' f f' b (subst (λ y. Begins (one_static y) d.ty i j' f') (sym p) b') in
-    (q ∙ ap (st.static_ d c.statics) p1.0 ∙ sym q', p1.1)
+    let p1 = begins_one c1 d.ty i j j' c2 c2' b (subst (λ y. Begins y d.ty i j' c2') (sym p) b') in
+    (q ∙ ap (st.static_ d c.statics) p1.0 ∙ sym q', r ∙ ap (with_statics (suc c.statics)) p1.1 ∙ sym r')
 
 auto_one : (c : Env) (l : ℕ) (d : Declr) (i : Option ud.Init) (x x' : Local) (f f' : Env) → IsAutoHere c l d i x f → IsAutoHere c l d i x' f' → (x ≡ x') × (f ≡ f')
 auto_one c l d None x x' f f' (c1, z, h, q, r) (c1', z', h', q', r') =
@@ -50,7 +50,7 @@ auto_one c l d (Some a) x x' f f' (w, c1, z, h, b, q, r) (w', c1', z', h', b', q
     let p1 = auto_init_one c1 d.ty a w w' b (subst (λ y. IsAutoInit y d.ty a w') (sym p) b') in
     (q ∙ ap (st.auto_init d c.autos c.starts l) p1 ∙ sym q', r ∙ ap (λ y. past_init a (started 1 (one_auto y))) p ∙ sym r')
 
-local_one : (b : Bool) (s : Option Storage) (c : Env) (l : ℕ) (d : Declr) (i : Option ud.Init) (x x' : Local) (f f' : Env) → IsLocalBy b s c l d i x f → IsLocalBy b s c l d i x' f' → (x ≡ x') × (f ≡ f')
+pub local_one : (b : Bool) (s : Option Storage) (c : Env) (l : ℕ) (d : Declr) (i : Option ud.Init) (x x' : Local) (f f' : Env) → IsLocalBy b s c l d i x f → IsLocalBy b s c l d i x' f' → (x ≡ x') × (f ≡ f')
 local_one true s c l d i x x' f f' h h' = function_one c (is_static s) d i x x' f f' h h'
 local_one false None c l d i x x' f f' h h' = auto_one c l d i x x' f f' h h'
 local_one false (Some sg.Extern) c l d i x x' f f' h h' = extern_one c d i x x' f f' h h'
@@ -58,7 +58,7 @@ local_one false (Some sg.Static) c l d i x x' f f' h h' = static_one c d i x x' 
 local_one false (Some sg.Auto) c l d i x x' f f' h h' = auto_one c l d i x x' f f' h h'
 local_one false (Some sg.Register) c l d i x x' f f' h h' = auto_one c l d i x x' f f' h h'
 
-locals_one : (c : Env) (s : Option Storage) (base : CType) (is : List ud.Item) (xs xs' : List Local) (f f' : Env) → AreLocals c s base is xs f → AreLocals c s base is xs' f' → (xs ≡ xs') × (f ≡ f')
+pub locals_one : (c : Env) (s : Option Storage) (base : CType) (is : List ud.Item) (xs xs' : List Local) (f f' : Env) → AreLocals c s base is xs f → AreLocals c s base is xs' f' → (xs ≡ xs') × (f ≡ f')
 locals_one c s base [] xs xs' f f' h h' = (h.0 ∙ sym h'.0, h.1 ∙ sym h'.1)
 locals_one c s base (i ∷ is) xs xs' f f' (d, x, rest, c1, hd, hx, hr, q) (d', x', rest', c1', hd', hx', hr', q') =
     let p = declr_one c (missing s i.init) base i.declr d d' hd hd' in
@@ -131,7 +131,7 @@ mutual
       let e2 = stmts_one c1 p ss rest rest' f f' k (subst (λ y. AreStmts y p ss rest' f') (sym e1.1) k') in
       (q ∙ ap (λ y. st.more_stmts y rest) e1.0 ∙ ap (st.more_stmts x') e2.0 ∙ sym q', e2.1)
 
-  items_one : (c : Env) (p : Place) (is : us.SwItems) (js js' : TItems) (f f' : Env) → AreItems c p is js f → AreItems c p is js' f' → (js ≡ js') × (f ≡ f')
+  pub items_one : (c : Env) (p : Place) (is : us.SwItems) (js js' : TItems) (f f' : Env) → AreItems c p is js f → AreItems c p is js' f' → (js ≡ js') × (f ≡ f')
   items_one c p us.no_items js js' f f' h h' = (h.0 ∙ sym h'.0, h.1 ∙ sym h'.1)
   items_one c p (us.more_items (us.case l a) is) js js' f f' (m, rest, h, k, q) (m', rest', h', k', q') =
       let e1 = gives_one (constant_of c) c a m m' h h' in

@@ -22,7 +22,7 @@ use Rattle.c_tree.specs.RuleTags.{IsEnumerator, IsValued, AreEnumerators, AreMem
 use Rattle.c_tree.specs.RuleUnit.{combined, DeclaresInFile, parameters, IsHead, own_number, next_static, IsFunctionItem, IsElsewhere, IsOutside, IsOwn, IsItemBy, AreItems, AreAliases, AreParameters, AreParDecls, list_of, in_body, at_body, IsBody, IsExt, at_first, AreExts}
 use Rattle.c_tree.specs.RuleNames.{storage_of, types_of}
 use Rattle.c_tree.proofs.OneExpr.{gives_one, is_one}
-use Rattle.c_tree.proofs.OneStmt.{decls_one, stmts_one}
+use Rattle.c_tree.proofs.OneStmt.{with_statics, decls_one, stmts_one}
 use Rattle.c_tree.proofs.OneDecl.{some_one, declr_one, begins_one}
 
 abbrev enumerator : Name → ℕ → Option TExpr → Enumerator
@@ -34,12 +34,12 @@ valued_one c b (Some a) y y' (k, g, r, q) (k', g', r', q') =
     let p = gives_one (constant_of c) c a k k' g g' in
     (r ∙ ap (λ z. z.bits) p ∙ sym r', q ∙ ap (λ z. Some z.expr) p ∙ sym q')
 
-enumerator_one : (c : Env) (b : Option ℕ) (x : ud.En) (y y' : Enumerator) → IsEnumerator c b x y → IsEnumerator c b x y' → y ≡ y'
+pub enumerator_one : (c : Env) (b : Option ℕ) (x : ud.En) (y y' : Enumerator) → IsEnumerator c b x y → IsEnumerator c b x y' → y ≡ y'
 enumerator_one c b x y y' h h' =
     let p = valued_one c b x.value y y' h.1 h'.1 in
     ap (λ z. enumerator z y.value y.expr) (h.0 ∙ sym h'.0) ∙ ap (λ z. enumerator y'.name z y.expr) p.0 ∙ ap (enumerator y'.name y'.value) p.1
 
-enumerators_one : (c : Env) (b : Option ℕ) (xs : List ud.En) (ys ys' : List Enumerator) (f f' : Env) → AreEnumerators c b xs ys f → AreEnumerators c b xs ys' f' → (ys ≡ ys') × (f ≡ f')
+pub enumerators_one : (c : Env) (b : Option ℕ) (xs : List ud.En) (ys ys' : List Enumerator) (f f' : Env) → AreEnumerators c b xs ys f → AreEnumerators c b xs ys' f' → (ys ≡ ys') × (f ≡ f')
 enumerators_one c b [] ys ys' f f' h h' = (h.0 ∙ sym h'.0, h.1 ∙ sym h'.1)
 enumerators_one c b (x ∷ xs) ys ys' f f' (y, rest, h, g, k, q) (y', rest', h', g', k', q') =
     let p = enumerator_one c b x y y' h h' in
@@ -47,7 +47,7 @@ enumerators_one c b (x ∷ xs) ys ys' f f' (y, rest, h, g, k, q) (y', rest', h',
     let p1 = enumerators_one (in_file (record { name = x.name; meaning = Constant y.value }) (past_option x.value c)) (Some y.value) xs rest rest' f f' k k1 in
     (q ∙ ap (λ z. z ∷ rest) p ∙ ap (λ z. y' ∷ z) p1.0 ∙ sym q', p1.1)
 
-members_one : (c : Env) (base : CType) (ds : List ud.Declr) (ys ys' : List Declr) (f f' : Env) → AreMembers c base ds ys f → AreMembers c base ds ys' f' → (ys ≡ ys') × (f ≡ f')
+pub members_one : (c : Env) (base : CType) (ds : List ud.Declr) (ys ys' : List Declr) (f f' : Env) → AreMembers c base ds ys f → AreMembers c base ds ys' f' → (ys ≡ ys') × (f ≡ f')
 members_one c base [] ys ys' f f' h h' = (h.0 ∙ sym h'.0, h.1 ∙ sym h'.1)
 members_one c base (d ∷ ds) ys ys' f f' (y, rest, h, g, s, k, q) (y', rest', h', g', s', k', q') =
     let p = declr_one c None base d y y' h h' in
@@ -80,7 +80,7 @@ mutual
         w ∙ ap (close (unplaced x Enum (map as_member ys))) p.1 ∙ ap (λ z. close (unplaced x Enum (map as_member z)) c1') p.0 ∙ sym w',
       )
 
-  mems_one : (c : Env) (ms : ud.Mems) (ys ys' : Mems) (ns ns' : List Member) (f f' : Env) → AreMems c ms ys ns f → AreMems c ms ys' ns' f' → (ys ≡ ys') × (ns ≡ ns') × (f ≡ f')
+  pub mems_one : (c : Env) (ms : ud.Mems) (ys ys' : Mems) (ns ns' : List Member) (f f' : Env) → AreMems c ms ys ns f → AreMems c ms ys' ns' f' → (ys ≡ ys') × (ns ≡ ns') × (f ≡ f')
   mems_one c ud.no_mems ys ys' ns ns' f f' h h' = (h.0 ∙ sym h'.0, h.1 ∙ sym h'.1, h.2 ∙ sym h'.2)
   mems_one c (ud.more_mems m ms) ys ys' ns ns' f f' (s, ds, rest, others, c1, h, k, q, r) (s', ds', rest', others', c1', h', k', q', r') =
       let p = mem_one c m s s' ds ds' c1 c1' h h' in
@@ -90,18 +90,18 @@ mutual
         p1.2,
       )
 
-  mem_one : (c : Env) (m : ud.Mem) (s s' : Spec) (xs xs' : List Declr) (f f' : Env) → IsMem c m s xs f → IsMem c m s' xs' f' → (s ≡ s') × (xs ≡ xs') × (f ≡ f')
+  pub mem_one : (c : Env) (m : ud.Mem) (s s' : Spec) (xs xs' : List Declr) (f f' : Env) → IsMem c m s xs f → IsMem c m s' xs' f' → (s ≡ s') × (xs ≡ xs') × (f ≡ f')
   mem_one c (ud.mem l y ds) s s' xs xs' f f' (b, c1, h, k) (b', c1', h', k') =
       let p = types_one c y s s' b b' c1 c1' h h' in
       let k1 = subst (λ z. AreMembers z b' ds xs' f') (sym p.2) k' in
       let p1 = members_one c1 b ds xs xs' f f' k (subst (λ z. AreMembers c1 z ds xs' f') (sym p.1) k1) in
       (p.0, p1.0, p1.1)
 
-types_or_int_one : (c : Env) (y : Option ud.Types) (s s' : Spec) (b b' : CType) (f f' : Env) → AreTypesOrInt c y s b f → AreTypesOrInt c y s' b' f' → Alike s s' b b' f f'
+pub types_or_int_one : (c : Env) (y : Option ud.Types) (s s' : Spec) (b b' : CType) (f f' : Env) → AreTypesOrInt c y s b f → AreTypesOrInt c y s' b' f' → Alike s s' b b' f f'
 types_or_int_one c None s s' b b' f f' h h' = (h.0 ∙ sym h'.0, h.1 ∙ sym h'.1, h.2 ∙ sym h'.2)
 types_or_int_one c (Some y) s s' b b' f f' h h' = types_one c y s s' b b' f f' h h'
 
-in_file_one : (c : Env) (x : Name) (m : Meaning) (f f' : Env) → DeclaresInFile c x m f → DeclaresInFile c x m f' → f ≡ f'
+pub in_file_one : (c : Env) (x : Name) (m : Meaning) (f f' : Env) → DeclaresInFile c x m f → DeclaresInFile c x m f' → f ≡ f'
 in_file_one c x m f f' (r, k, q) (r', k', q') = q ∙ ap (λ z. in_file (record { name = x; meaning = z }) c) (some_one (combined (in_scope x c.file) m) r r' k k') ∙ sym q'
 
 elsewhere_one : (c : Env) (d : Declr) (i : Option ud.Init) (x x' : Item) (f f' : Env) → IsElsewhere c d i x f → IsElsewhere c d i x' f' → (x ≡ x') × (f ≡ f')
@@ -116,17 +116,15 @@ outside_one c d i x x' f f' (j, c1, z, h, b, q) (j', c1', z', h', b', q') =
     let p1 = begins_one c1 d.ty i j j' f f' b (subst (λ y. Begins y d.ty i j' f') (sym p) b') in
     (q ∙ ap {B = Item} (λ y. record { declr = d; bound = t.Outside; init = y }) p1.0 ∙ sym q', p1.1)
 
-abbrev with_statics : ℕ → Env → Env
-with_statics n c = record c { statics = n }
-
 own_one : (c : Env) (d : Declr) (i : Option ud.Init) (x x' : Item) (f f' : Env) → IsOwn c d i x f → IsOwn c d i x' f' → (x ≡ x') × (f ≡ f')
-own_one c d i x x' f f' (j, c1, z, h, b, q) (j', c1', z', h', b', q') =
+own_one c d i x x' f f' (j, c1, c2, z, h, b, q, r) (j', c1', c2', z', h', b', q', r') =
     let p = in_file_one c d.name _ c1 c1' h h' in
-    let n = next_static c (in_scope d.name c.file) in
-    let p1 = begins_one (with_statics n c1) d.ty i j j' f f' b (subst (λ y. Begins (with_statics n y) d.ty i j' f') (sym p) b') in
-    (q ∙ ap {B = Item} (λ y. record { declr = d; bound = t.Own (own_number c (in_scope d.name c.file)); init = y }) p1.0 ∙ sym q', p1.1)
+    let p1 = begins_one c1 d.ty i j j' c2 c2' b (subst (λ y. Begins y d.ty i j' c2') (sym p) b') in (
+      q ∙ ap {B = Item} (λ y. record { declr = d; bound = t.Own (own_number c (in_scope d.name c.file)); init = y }) p1.0 ∙ sym q',
+      r ∙ ap (with_statics (next_static c (in_scope d.name c.file))) p1.1 ∙ sym r',
+    )
 
-item_one : (b : Bool) (s : Option Storage) (c : Env) (d : Declr) (i : Option ud.Init) (x x' : Item) (f f' : Env) → IsItemBy b s c d i x f → IsItemBy b s c d i x' f' → (x ≡ x') × (f ≡ f')
+pub item_one : (b : Bool) (s : Option Storage) (c : Env) (d : Declr) (i : Option ud.Init) (x x' : Item) (f f' : Env) → IsItemBy b s c d i x f → IsItemBy b s c d i x' f' → (x ≡ x') × (f ≡ f')
 item_one true s c d i x x' f f' h h' = function_one c (is_static s) d i x x' f f' h h'
 item_one false None c d i x x' f f' h h' = outside_one c d i x x' f f' h h'
 item_one false (Some sg.Extern) c d i x x' f f' h h' = elsewhere_one c d i x x' f f' h h'
@@ -151,7 +149,7 @@ aliases_one c base (d ∷ ds) xs xs' f f' (x, rest, hd, g, hr, q) (x', rest', hd
     let p1 = aliases_one (in_file (record { name = x.name; meaning = Alias x.ty }) (past_declr d c)) base ds rest rest' f f' hr hr1 in
     (q ∙ ap (λ y. y ∷ rest) p ∙ ap (λ y. x' ∷ y) p1.0 ∙ sym q', p1.1)
 
-parameters_one : (c : Env) (xs : List Name) (base : CType) (ds : List ud.Declr) (ys ys' : List Declr) (f f' : Env) → AreParameters c xs base ds ys f → AreParameters c xs base ds ys' f' → (ys ≡ ys') × (f ≡ f')
+pub parameters_one : (c : Env) (xs : List Name) (base : CType) (ds : List ud.Declr) (ys ys' : List Declr) (f f' : Env) → AreParameters c xs base ds ys f → AreParameters c xs base ds ys' f' → (ys ≡ ys') × (f ≡ f')
 parameters_one c xs base [] ys ys' f f' h h' = (h.0 ∙ sym h'.0, h.1 ∙ sym h'.1)
 parameters_one c xs base (d ∷ ds) ys ys' f f' (y, rest, h, g, s, k, q) (y', rest', h', g', s', k', q') =
     let p = declr_one c (Some 0) base d y y' h h' in
@@ -194,12 +192,12 @@ bodies_equal f g a b c d p q r s t u v =
 abbrev behind : Env → Env
 behind c = record (started 1 c) { blocks = [] }
 
-head_one : (c : Env) (s : Bool) (h : ud.Declr) (d : Declr) (ps : List ud.ParDecl) (ys ys' : List ParDecl) (e e' : Env) → IsHead c s h d ps ys e → IsHead c s h d ps ys' e' → (ys ≡ ys') × (e ≡ e')
+pub head_one : (c : Env) (s : Bool) (h : ud.Declr) (d : Declr) (ps : List ud.ParDecl) (ys ys' : List ParDecl) (e e' : Env) → IsHead c s h d ps ys e → IsHead c s h d ps ys' e' → (ys ≡ ys') × (e ≡ e')
 head_one c s h d ps ys ys' e e' (c1, hp, g1, g2, hd) (c1', hp', g1', g2', hd') =
     let p = par_decls_one c (list_of h) ps ys ys' c1 c1' hp hp' in
     (p.0, in_file_one c1 d.name _ e e' hd (subst (λ y. DeclaresInFile y d.name (Function s (function_ref y s d.name) d.ty) e') (sym p.1) hd'))
 
-body_one : (c : Env) (s : Bool) (h : ud.Declr) (d : Declr) (ps : List ud.ParDecl) (b : Block) (f f' : Func) (e e' : Env) → IsBody c s h d ps b f e → IsBody c s h d ps b f' e' → (f ≡ f') × (e ≡ e')
+pub body_one : (c : Env) (s : Bool) (h : ud.Declr) (d : Declr) (ps : List ud.ParDecl) (b : Block) (f f' : Func) (e e' : Env) → IsBody c s h d ps b f e → IsBody c s h d ps b f' e' → (f ≡ f') × (e ≡ e')
 body_one c s h d ps b f f' e e' (c1, c2, c3, r, hh, hl, hs, n, z, vs, l, m, k, j, q) (c1', c2', c3', r', hh', hl', hs', n', z', vs', l', m', k', j', q') =
     let er : f.result ≡ f'.result = ap target (sym r ∙ r') in
     let p = head_one c s h d ps f.declared f'.declared c1 c1' hh hh' in
@@ -213,7 +211,7 @@ body_one c s h d ps b f f' e e' (c1, c2, c3, r, hh, hl, hs, n, z, vs, l, m, k, j
       q ∙ ap behind p3.1 ∙ sym q',
     )
 
-ext_one : (c : Env) (y : uu.Ext) (x x' : TExt) (f f' : Env) → IsExt c y x f → IsExt c y x' f' → (x ≡ x') × (f ≡ f')
+pub ext_one : (c : Env) (y : uu.Ext) (x x' : TExt) (f f' : Env) → IsExt c y x f → IsExt c y x' f' → (x ≡ x') × (f ≡ f')
 ext_one c (uu.typedef l y ds) x x' f f' (s, b, xs, c1, h, k, q) (s', b', xs', c1', h', k', q') =
     let p = types_or_int_one c y s s' b b' c1 c1' h h' in
     let k1 = subst (λ z. AreAliases z b' ds xs' f') (sym p.2) k' in

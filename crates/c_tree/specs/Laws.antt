@@ -10,6 +10,7 @@ use Rattle.c_tree.specs.Run.{run}
 use Rattle.c_tree.specs.RuleScope.{Env}
 use Rattle.c_tree.specs.RuleTree.{IsExpr}
 use Rattle.c_tree.specs.RuleUnit.{IsTyped}
+use Rattle.c_tree.specs.RuleFailsUnit.{UnitFails}
 
 -- n is fuel enough for the stop number n
 abbrev pub HasFuel : Type 0
@@ -36,3 +37,11 @@ OneTypedExpr = (c : Env) (a : Expr) (t t' : TExpr) → IsExpr c a t → IsExpr c
 -- at most one typed unit belongs to a unit
 abbrev pub OneTypedUnit : Type 0
 OneTypedUnit = (y : u.Unit) (x x' : TypedUnit) → IsTyped y x → IsTyped y x' → x ≡ x'
+
+-- where a rule fails in a unit, no typed unit belongs to it
+abbrev pub FailsApart : Type 0
+FailsApart = (y : u.Unit) (n : ℕ) (x : TypedUnit) → UnitFails y n → IsTyped y x → ⊥
+
+-- a rule that fails in a unit is one of the 24
+abbrev pub FailsByNumber : Type 0
+FailsByNumber = (y : u.Unit) (n : ℕ) → UnitFails y n → (1 ≤ n) × (n ≤ 24)

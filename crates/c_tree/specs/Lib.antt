@@ -46,5 +46,7 @@ pub mod RuleStmts
 pub mod RuleTags
 pub mod RuleNames
 pub mod RuleUnit
+pub mod RuleFails
+pub mod RuleFailsUnit
 pub mod Rules
 pub mod Laws

@@ -83,8 +83,8 @@ IsExternHere c d i x c' = (i ≡ None) × Declares c d.name (Thing (e.Ext d.name
 -- a static object with the next number; its initialiser may name it
 abbrev pub IsStaticHere : Env → Declr → Option ud.Init → Local → Env → Type 0
 IsStaticHere c d i x c' =
-    (j : Option st.Init) × (c1 : Env) × (is_sized (known c) d.ty ≡ true) × Declares c d.name (Thing (e.Static c.statics) d.ty) c1 ×
-    Begins (record c1 { statics = suc c1.statics }) d.ty i j c' × (x ≡ st.static_ d c.statics j)
+    (j : Option st.Init) × (c1 : Env) × (c2 : Env) × (is_sized (known c) d.ty ≡ true) × Declares c d.name (Thing (e.Static c.statics) d.ty) c1 ×
+    Begins c1 d.ty i j c2 × (x ≡ st.static_ d c.statics j) × (c' ≡ record c2 { statics = suc c.statics })
 
 -- behind an automatic initialiser
 abbrev pub past_init : ud.Init → Env → Env

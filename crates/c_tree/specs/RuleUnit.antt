@@ -76,9 +76,10 @@ IsOutside c d i x c' =
 -- a static object, whose initialiser may name it
 abbrev pub IsOwn : Env → Declr → Option ud.Init → Item → Env → Type 0
 IsOwn c d i x c' =
-    (j : Option st.Init) × (c1 : Env) × (is_sized (known c) d.ty ≡ true) × DeclaresInFile c d.name (Thing (e.Static (own_number c (in_scope d.name c.file))) d.ty) c1 ×
-    Begins (record c1 { statics = next_static c (in_scope d.name c.file) }) d.ty i j c' ×
-    (x ≡ record { declr = d; bound = Own (own_number c (in_scope d.name c.file)); init = j })
+    (j : Option st.Init) × (c1 : Env) × (c2 : Env) × (is_sized (known c) d.ty ≡ true) ×
+    DeclaresInFile c d.name (Thing (e.Static (own_number c (in_scope d.name c.file))) d.ty) c1 × Begins c1 d.ty i j c2 ×
+    (x ≡ record { declr = d; bound = Own (own_number c (in_scope d.name c.file)); init = j }) ×
+    (c' ≡ record c2 { statics = next_static c (in_scope d.name c.file) })
 
 -- what a declarator declares, by its type and its storage word
 abbrev pub IsItemBy : Bool → Option Storage → Env → Declr → Option ud.Init → Item → Env → Type 0
