@@ -16,6 +16,8 @@ mod EvaluationRows
 mod ApartStmt
 mod ApartUnit
 mod RuleNumbers
+mod LaidTags
+mod TypedTags
 mod RuleRows
 mod UnitTyped
 pub mod OneExpr

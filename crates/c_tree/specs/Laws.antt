@@ -1,5 +1,6 @@
 -- Laws. Of Run: a program, an input and changes are fixed; n and m are stop numbers. Of typing: a unit that was read is fixed.
 use Rattle.std.specs.Prelude.{◌≡◌, ℕ, ◌<◌, ◌≤◌, List}
+use Rattle.c_type.specs.Sizes.{AreLaid}
 use Rattle.c_tree.specs.TreeExpr.{Expr}
 use Rattle.c_tree.specs.TreeUnit as u
 use Rattle.c_tree.specs.TExpr.{TExpr}
@@ -45,3 +46,7 @@ FailsApart = (y : u.Unit) (n : ℕ) (x : TypedUnit) → UnitFails y n → IsType
 -- a rule that fails in a unit is one of the 24
 abbrev pub FailsByNumber : Type 0
 FailsByNumber = (y : u.Unit) (n : ℕ) → UnitFails y n → (1 ≤ n) × (n ≤ 24)
+
+-- the tags of a typed unit hold earlier ones alone, and have the numbers that their members' types give
+abbrev pub TagsAreLaid : Type 0
+TagsAreLaid = (y : u.Unit) (x : TypedUnit) → IsTyped y x → AreLaid x.tags

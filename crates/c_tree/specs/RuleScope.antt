@@ -4,7 +4,7 @@ use Rattle.c_type.specs.Names.{Name, same_name, pick, or_else}
 use Rattle.c_type.specs.declared.TagKind.{TagKind}
 use Rattle.c_type.specs.declared.TagKind.TheVariants.{Struct, Union, Enum}
 use Rattle.c_type.specs.Types.{CType, arr, struct, union, enum, Tag}
-use Rattle.c_type.specs.Sizes.{lay}
+use Rattle.c_type.specs.Sizes.{laid_as}
 use Rattle.c_tree.specs.TreeExpr.{Expr}
 use Rattle.c_tree.specs.TExpr.{Ref, Func as OwnFunc, Outer}
 use Rattle.c_tree.specs.RuleTexts.{texts_in}
@@ -83,7 +83,7 @@ known c = length c.tags
 
 -- behind the closing brace of a tag's body; its sizes and offsets are those that its members' types give
 abbrev pub close : Tag → Env → Env
-close r c = record c { tags = lay c.tags (r ∷ []) }
+close r c = record c { tags = c.tags ++ laid_as r.kind c.tags r ∷ [] }
 
 -- what a name means in one scope; the latest declaration stands first
 abbrev pub in_scope : Name → List Entry → Option Meaning

@@ -24,7 +24,8 @@ mod typed_unit;
 
 pub use laws::{
     each_run_halts, end_is_final, expression_has_one_type, failed_rule_is_one_of_24,
-    failed_rule_leaves_no_type, fuel_is_enough, stop_is_exact, unit_has_one_type,
+    failed_rule_leaves_no_type, fuel_is_enough, stop_is_exact, typed_tags_are_laid,
+    unit_has_one_type,
 };
 pub use start_lines::starts;
 pub use typed_expr::{Ref, TBinary, TExpr, TStep, TUnary};
