@@ -13,11 +13,11 @@ pub mod Seen
 mod MachineRows
 mod LeavesRows
 mod EvaluationRows
-mod ApartStmt
-mod ApartUnit
-mod RuleNumbers
-mod LaidTags
-mod TypedTags
+pub mod ApartStmt
+pub mod ApartUnit
+pub mod RuleNumbers
+pub mod LaidTags
+pub mod TypedTags
 mod RuleRows
 mod UnitTyped
 pub mod OneExpr
