@@ -13,6 +13,11 @@ pub mod Seen
 mod MachineRows
 mod LeavesRows
 mod EvaluationRows
+pub mod ApartStmt
+pub mod ApartUnit
+pub mod RuleNumbers
+pub mod LaidTags
+pub mod TypedTags
 mod RuleRows
 mod UnitTyped
 pub mod OneExpr

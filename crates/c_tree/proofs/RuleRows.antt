@@ -11,7 +11,7 @@ use Rattle.c_tree.specs.Arith.{add32, sub32, traps}
 use Rattle.c_tree.specs.TExpr as e
 use Rattle.c_tree.specs.TExpr.{TExpr, name, int, convert, decay, designate, type_of}
 use Rattle.c_tree.specs.Constant.{constant}
-use Rattle.c_tree.specs.RuleScope.{Is, Fails, Env, Constant, tag_from}
+use Rattle.c_tree.specs.RuleScope.{Is, Fails, Env, Constant, TagHead, tag_from}
 use Rattle.c_tree.specs.RuleTypes.{declared_type, cast_type, sized_type}
 use Rattle.c_tree.specs.RuleValues.{taken}
 use Rattle.c_tree.specs.RuleExprs as r
@@ -25,11 +25,13 @@ long_t = num k.Long
 abbrev tags : List Tag
 tags =
     lay [] (record { name = 115 ∷ []; kind = Struct; members = record { name = 118 ∷ []; off = 0; ty = int_t } ∷ (record { name = 99 ∷ []; off = 0; ty = char_t } ∷ []); size = 0; align = 1 } ∷
-    (record { name = 101 ∷ []; kind = Enum; members = []; size = 0; align = 1 } ∷
-    (record { name = 116 ∷ []; kind = Struct; members = record { name = 118 ∷ []; off = 0; ty = int_t } ∷ []; size = 0; align = 1 } ∷ [])))
+    (record { name = 101 ∷ []; kind = Enum; members = []; size = 0; align = 1 } ∷ []))
+
+abbrev heads : List TagHead
+heads = record { name = 115 ∷ []; kind = Struct } ∷ (record { name = 101 ∷ []; kind = Enum } ∷ (record { name = 116 ∷ []; kind = Struct } ∷ []))
 
 abbrev here : Env
-here = record { blocks = []; file = []; known = 2; starts = 0; autos = 0; statics = 0; texts = 0; tags = tags; bytes = []; funcs = []; items = [] }
+here = record { blocks = []; file = []; tags = tags; texts = []; starts = 0; autos = 0; statics = 0; heads = heads; bodies = [] }
 
 -- a variable of a type
 abbrev var : CType → TExpr
@@ -58,15 +60,15 @@ called_undeclared : r.called_name here (102 ∷ []) None ≡ Is (name f_t (e.Out
 called_undeclared = refl
 
 -- rule 3: a tag with its kind, and a size only behind the definition
-tag_known : tag_from 0 tags Struct (115 ∷ []) ≡ Is s_t
+tag_known : tag_from 0 heads Struct (115 ∷ []) ≡ Is s_t
 unfolding up_to
 tag_known = refl
 
-tag_of_another_kind : tag_from 0 tags Enum (115 ∷ []) ≡ Fails 3
+tag_of_another_kind : tag_from 0 heads Enum (115 ∷ []) ≡ Fails 3
 unfolding up_to
 tag_of_another_kind = refl
 
-tag_missing : tag_from 0 tags Struct (120 ∷ []) ≡ Fails 3
+tag_missing : tag_from 0 heads Struct (120 ∷ []) ≡ Fails 3
 unfolding up_to
 tag_missing = refl
 

@@ -1,6 +1,5 @@
 -- A unit and the typed unit that belongs to it: int g; main() { int x; x = 5; g = x + 1; return g; }
 use Rattle.std.specs.Prelude.{[], ◌∷◌, Some, None, false, refl}
-use Rattle.std.proofs.Common.{arith}
 use Rattle.c_type.specs.declared.Kind.TheVariants.{Int}
 use Rattle.c_type.specs.Names.{Name}
 use Rattle.c_tree.specs.declared.expr.AssignOp.TheVariants.{Set}
@@ -51,7 +50,7 @@ typed_is = record {
     _,
     _,
     _,
-    (_, _, _, _, (refl, refl, refl), (_, _, _, _, ((refl, refl, refl), refl), (_, _, refl, (_, refl, refl), refl, refl, refl), (refl, refl), refl), refl),
+    (_, _, _, _, (refl, refl, refl), (_, _, _, _, ((refl, refl, refl), refl), (_, _, refl, (_, refl, refl), (refl, refl), refl), (refl, refl), refl), refl),
     (
       _,
       _,
@@ -69,27 +68,26 @@ typed_is = record {
           _,
           _,
           refl,
-          refl,
-          refl,
-          (refl, refl),
-          refl,
-          refl,
-          refl,
-          (_, refl, refl),
+          (_, (refl, refl), refl, refl, (_, refl, refl)),
           (_, _, _, _, refl, (_, _, _, _, ((refl, refl, refl), refl), (_, refl, (refl, refl), refl, refl), (refl, refl), refl), (refl, refl), refl),
           (
             _,
             _,
-            (_, (_, (_, _, refl, refl, refl), refl), refl),
+            _,
+            (_, (_, (_, _, refl, refl, refl), refl), refl, refl),
             (
               _,
               _,
-              (_, (_, (_, _, refl, (_, _, refl, refl, refl), refl), refl), refl),
-              (_, _, (_, (_, (_, _, refl, refl, refl), refl), refl), refl, refl),
+              _,
+              (_, (_, (_, _, refl, (_, _, refl, refl, refl), refl), refl), refl, refl),
+              (_, _, _, (_, (_, (_, refl, refl), refl), refl, refl), (refl, refl), refl),
               refl,
             ),
             refl,
           ),
+          refl,
+          refl,
+          refl,
           refl,
           refl,
           refl,
@@ -105,7 +103,6 @@ typed_is = record {
   );
   defined_once = refl;
   tags_once = refl;
-  tags_closed = refl;
-  laid = λ k lt. absurd (omega (arith, lt));
-  texts_met = refl;
+  tags = refl;
+  texts = refl;
 }

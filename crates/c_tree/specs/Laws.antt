@@ -1,5 +1,6 @@
 -- Laws. Of Run: a program, an input and changes are fixed; n and m are stop numbers. Of typing: a unit that was read is fixed.
 use Rattle.std.specs.Prelude.{◌≡◌, ℕ, ◌<◌, ◌≤◌, List}
+use Rattle.c_type.specs.Sizes.{AreLaid}
 use Rattle.c_tree.specs.TreeExpr.{Expr}
 use Rattle.c_tree.specs.TreeUnit as u
 use Rattle.c_tree.specs.TExpr.{TExpr}
@@ -9,7 +10,8 @@ use Rattle.c_tree.specs.State.{State, Gave, Halt, Changes}
 use Rattle.c_tree.specs.Run.{run}
 use Rattle.c_tree.specs.RuleScope.{Env}
 use Rattle.c_tree.specs.RuleTree.{IsExpr}
-use Rattle.c_tree.specs.RuleUnit.{IsTyped, at_first}
+use Rattle.c_tree.specs.RuleUnit.{IsTyped}
+use Rattle.c_tree.specs.RuleFailsUnit.{UnitFails}
 
 -- n is fuel enough for the stop number n
 abbrev pub HasFuel : Type 0
@@ -33,6 +35,18 @@ EndsAlike =
 abbrev pub OneTypedExpr : Type 0
 OneTypedExpr = (c : Env) (a : Expr) (t t' : TExpr) → IsExpr c a t → IsExpr c a t' → t ≡ t'
 
--- with the same tags, texts, bodies and declarators, at most one typed unit belongs to a unit
+-- at most one typed unit belongs to a unit
 abbrev pub OneTypedUnit : Type 0
-OneTypedUnit = (y : u.Unit) (x x' : TypedUnit) → IsTyped y x → IsTyped y x' → at_first x ≡ at_first x' → x ≡ x'
+OneTypedUnit = (y : u.Unit) (x x' : TypedUnit) → IsTyped y x → IsTyped y x' → x ≡ x'
+
+-- where a rule fails in a unit, no typed unit belongs to it
+abbrev pub FailsApart : Type 0
+FailsApart = (y : u.Unit) (n : ℕ) (x : TypedUnit) → UnitFails y n → IsTyped y x → ⊥
+
+-- a rule that fails in a unit is one of the 24
+abbrev pub FailsByNumber : Type 0
+FailsByNumber = (y : u.Unit) (n : ℕ) → UnitFails y n → (1 ≤ n) × (n ≤ 24)
+
+-- the tags of a typed unit hold earlier ones alone, and have the numbers that their members' types give
+abbrev pub TagsAreLaid : Type 0
+TagsAreLaid = (y : u.Unit) (x : TypedUnit) → IsTyped y x → AreLaid x.tags

@@ -35,6 +35,7 @@ pub mod Run
 pub mod Scope
 pub mod Place
 pub mod Numbers
+pub mod RuleTexts
 pub mod RuleScope
 pub mod RuleTypes
 pub mod RuleValues
@@ -43,6 +44,9 @@ pub mod RuleTree
 pub mod RuleDecls
 pub mod RuleStmts
 pub mod RuleTags
+pub mod RuleNames
 pub mod RuleUnit
+pub mod RuleFails
+pub mod RuleFailsUnit
 pub mod Rules
 pub mod Laws

@@ -1,5 +1,5 @@
 -- The rules on declarators, constants and initialisers.
-use Rattle.std.specs.Prelude.{◌≡◌, ℕ, zero, suc, ◌+◌, ◌-◌, ◌*◌, ◌≤◌, List, [], ◌∷◌, ◌++◌, length, map, replicate, Option, Some, None, Bool, true, false, not, nat_eq, nat_le, ◌&&◌, ◌||◌, ◌⊎◌}
+use Rattle.std.specs.Prelude.{◌≡◌, ℕ, zero, suc, ◌+◌, ◌-◌, ◌*◌, List, [], ◌∷◌, ◌++◌, length, map, replicate, Option, Some, None, Bool, true, false, not, nat_eq, nat_le, ◌&&◌, ◌||◌}
 use Rattle.c_type.specs.Names.{Name, pick, at_or}
 use Rattle.c_type.specs.declared.Kind.TheVariants.{Char}
 use Rattle.c_type.specs.Types.{CType, num, ptr, arr, struct, fun, Tag, Member, is_integer, is_pointer, signed_type, target}
@@ -11,34 +11,55 @@ use Rattle.c_tree.specs.TExpr.{TExpr, type_of}
 use Rattle.c_tree.specs.TStmt as st
 use Rattle.c_tree.specs.TStmt.{Declr}
 use Rattle.c_tree.specs.Constant.{constant, given, is_zero}
-use Rattle.std.specs.List.{flat_map}
-use Rattle.c_tree.specs.Mentions.{in_expr, in_init}
-use Rattle.c_tree.specs.RuleScope.{Is, Env, past}
+use Rattle.c_tree.specs.RuleScope.{Judged, Is, Fails, onward, provided, Env, past, past_option}
 use Rattle.c_tree.specs.RuleTypes.{declared_type}
-use Rattle.c_tree.specs.RuleValues.{used, taken, is_scalar}
-use Rattle.c_tree.specs.RuleTree.{IsExpr}
+use Rattle.c_tree.specs.RuleValues.{used, taken, value_for}
+use Rattle.c_tree.specs.RuleTree.{Gives}
 
--- rule 9: a constant expression with its 32 bits
-abbrev pub IsConstant : Env → u.Expr → TExpr → ℕ → Type 0
-IsConstant c a v n = (x : TExpr) × IsExpr c a x × (used x ≡ Is v) × (constant c.tags v ≡ Some n)
+-- a constant expression with its 32 bits
+pub record Number : Type 0 where
+  pub expr : TExpr
+  pub bits : ℕ
+
+abbrev pub with_bits : TExpr → Option ℕ → Judged Number
+with_bits v None = Fails 9
+with_bits v (Some n) = Is (record { expr = v; bits = n })
+
+-- rule 9: a constant
+abbrev pub constant_of : Env → TExpr → Judged Number
+constant_of c x = onward (used x) (λ v. with_bits v (constant c.tags v))
+
+abbrev pub IsConstant : Env → u.Expr → Number → Type 0
+IsConstant c a k = Gives (constant_of c) c a k
 
 abbrev pub is_positive : CType → ℕ → Bool
 is_positive t n = not (nat_eq n 0) && not (signed_type t && nat_le 2147483648 n)
+
+-- rule 5: a dimension is a constant of at least 1
+abbrev pub dimension_of : Env → TExpr → Judged Number
+dimension_of c x = onward (constant_of c x) (λ k. provided 5 (is_positive (type_of k.expr) k.bits) (Is k))
 
 -- whether nothing stands between an array's brackets and its name
 abbrev pub is_name : ud.Declr → Bool
 is_name (ud.name l x) = true
 is_name _ = false
 
--- Rule 5: a dimension is a constant of at least 1. The outermost one may be missing where `missing` gives its number. The
+-- behind a declarator, whose dimensions stand from the inside to the outside
+abbrev pub past_declr : ud.Declr → Env → Env
+past_declr (ud.pointer l d) c = past_declr d c
+past_declr (ud.name l x) c = c
+past_declr (ud.array l d a) c = past_option a (past_declr d c)
+past_declr (ud.function l d xs) c = past_declr d c
+
+-- Rule 5: only the outermost dimension may be missing, and only where `missing` gives its number. The
 -- declarator x has the type t, where base is the type that its words give, and es are its dimensions in textual order.
 abbrev pub IsDerived : Env → Option ℕ → CType → ud.Declr → (x : Name) (t : CType) (es : List TExpr) → Type 0
 IsDerived c missing base (ud.pointer l d) x t es = IsDerived c missing (ptr base) d x t es
 IsDerived c missing base (ud.name l y) x t es = (x ≡ y) × (t ≡ base) × (es ≡ [])
 IsDerived c missing base (ud.array l d None) x t es = (n : ℕ) × (is_name d ≡ true) × (missing ≡ Some n) × IsDerived c missing (arr n base) d x t es
 IsDerived c missing base (ud.array l d (Some a)) x t es =
-    (v : TExpr) × (n : ℕ) × (rest : List TExpr) × IsDerived c missing (arr n base) d x t rest × IsConstant (past (flat_map in_expr rest) c) a v n ×
-    (is_positive (type_of v) n ≡ true) × (es ≡ rest ++ v ∷ [])
+    (k : Number) × (rest : List TExpr) × IsDerived c missing (arr k.bits base) d x t rest × Gives (dimension_of (past_declr d c)) (past_declr d c) a k ×
+    (es ≡ rest ++ k.expr ∷ [])
 IsDerived c missing base (ud.function l d xs) x t es = IsDerived c missing (fun base) d x t es
 
 -- a declarator with its type, which meets the rules on types
@@ -148,43 +169,53 @@ is_aggregate (arr n t) = true
 is_aggregate (struct k) = true
 is_aggregate _ = false
 
--- a text for an array of char, with at most one byte more than there is room for
-abbrev pub FillsChars : CType → u.Expr → st.Init → Type 0
-FillsChars t (u.text l bs) j = (is_char_array t ≡ true) × (length bs ≤ dimension t) × (j ≡ st.bytes (bs ++ 0 ∷ []))
-FillsChars t _ j = ⊥
+-- a text fills an array of char that has room for all its bytes but the last
+abbrev pub fills_chars : CType → u.Expr → Bool
+fills_chars t (u.text l bs) = is_char_array t && nat_le (length bs) (dimension t)
+fills_chars t _ = false
 
--- a known value for a scalar
-abbrev pub BeginsScalar : Env → CType → u.Expr → st.Init → Type 0
-BeginsScalar c t a j =
-    (x : TExpr) × (v : TExpr) × (w : TExpr) × (is_scalar t ≡ true) × IsExpr c a x × (used x ≡ Is v) × (taken 10 c t v ≡ Is w) × (is_known c.tags t v ≡ true) × (j ≡ st.single w)
+-- the bytes of a text, the zero byte too
+abbrev pub bytes_of : u.Expr → List ℕ
+bytes_of (u.text l bs) = bs ++ 0 ∷ []
+bytes_of _ = []
+
+-- rule 10: the value with which a scalar of static life begins
+abbrev pub first_value : Env → CType → TExpr → Judged TExpr
+first_value c t x = onward (used x) (λ v. provided 10 (is_known c.tags t v) (taken 10 c t v))
+
+-- an expression as an initialiser: a text that fills an array of char, and is no object then, or a value
+abbrev pub IsSingle : (fills : Bool) → Env → CType → u.Expr → st.Init → Env → Type 0
+IsSingle true c t a j c' = (j ≡ st.bytes (bytes_of a)) × (c' ≡ c)
+IsSingle false c t a j c' = (v : TExpr) × Gives (first_value c t) c a v × (j ≡ st.single v) × (c' ≡ past a c)
 
 -- Rule 10: an initialiser of static life, by the type of what it initialises. A list has at most as many parts.
 abbrev mutual
-  pub IsInit : Env → CType → ud.Init → st.Init → Type 0
-  IsInit c t (ud.single a) j = FillsChars t a j ⊎ BeginsScalar c t a j
-  IsInit c t (ud.group l is) j = (js : st.Inits) × (is_aggregate t ≡ true) × AreInits c (part_types c.tags t) is js × (j ≡ st.group js)
+  pub IsInit : Env → CType → ud.Init → st.Init → Env → Type 0
+  IsInit c t (ud.single a) j c' = IsSingle (fills_chars t a) c t a j c'
+  IsInit c t (ud.group l is) j c' = (js : st.Inits) × (is_aggregate t ≡ true) × AreInits c (part_types c.tags t) is js c' × (j ≡ st.group js)
 
-  pub AreInits : Env → List CType → ud.Inits → st.Inits → Type 0
-  AreInits c ts ud.no_inits js = js ≡ st.no_inits
-  AreInits c [] (ud.more_inits i is) js = ⊥
-  AreInits c (t ∷ ts) (ud.more_inits i is) js = (j : st.Init) × (rest : st.Inits) × IsInit c t i j × AreInits (past (in_init j) c) ts is rest × (js ≡ st.more_inits j rest)
+  pub AreInits : Env → List CType → ud.Inits → st.Inits → Env → Type 0
+  AreInits c ts ud.no_inits js c' = (js ≡ st.no_inits) × (c' ≡ c)
+  AreInits c [] (ud.more_inits i is) js c' = ⊥
+  AreInits c (t ∷ ts) (ud.more_inits i is) js c' =
+      (j : st.Init) × (rest : st.Inits) × (c1 : Env) × IsInit c t i j c1 × AreInits c1 ts is rest c' × (js ≡ st.more_inits j rest)
 
 -- an initialiser of static life that may be left out
-abbrev pub Begins : Env → CType → Option ud.Init → Option st.Init → Type 0
-Begins c t None j = j ≡ None
-Begins c t (Some i) j = (k : st.Init) × IsInit c t i k × (j ≡ Some k)
+abbrev pub Begins : Env → CType → Option ud.Init → Option st.Init → Env → Type 0
+Begins c t None j c' = (j ≡ None) × (c' ≡ c)
+Begins c t (Some i) j c' = (k : st.Init) × IsInit c t i k c' × (j ≡ Some k)
 
 -- rule 11: an automatic initialiser is for a scalar, and allowed as by rule 21
 abbrev pub IsAutoInit : Env → CType → ud.Init → TExpr → Type 0
-IsAutoInit c t (ud.single a) w = (x : TExpr) × (v : TExpr) × IsExpr c a x × (used x ≡ Is v) × (taken 11 c t v ≡ Is w)
+IsAutoInit c t (ud.single a) w = Gives (value_for 11 c t) c a w
 IsAutoInit c t (ud.group l is) w = ⊥
 
 abbrev pub count_inits : ud.Inits → ℕ
 count_inits ud.no_inits = 0
 count_inits (ud.more_inits i is) = suc (count_inits is)
 
--- the number that an initialiser gives to a missing dimension
+-- the number that an initialiser gives to a missing dimension, which is at least 1
 abbrev pub given_by : Option ud.Init → Option ℕ
 given_by (Some (ud.single (u.text l bs))) = Some (suc (length bs))
-given_by (Some (ud.group l is)) = Some (count_inits is)
+given_by (Some (ud.group l (ud.more_inits i is))) = Some (suc (count_inits is))
 given_by _ = None

@@ -12,8 +12,7 @@ use Rattle.c_tree.specs.declared.expr.StepOp.TheVariants as so
 use Rattle.c_tree.specs.TreeExpr.{AssignOp, BinaryOp, UnaryOp, StepOp}
 use Rattle.c_tree.specs.TExpr as e
 use Rattle.c_tree.specs.TExpr.{TExpr, TUnary, TBinary, TStep, type_of}
-use Rattle.c_tree.specs.TUnit.{Item, Func, OutsideFunction, Bound}
-use Rattle.c_tree.specs.RuleScope.{Judged, Is, Fails, onward, provided, Env, Meaning, Alias, Constant, Thing, Function, function_ref, is_sized}
+use Rattle.c_tree.specs.RuleScope.{Judged, Is, Fails, onward, provided, Env, Meaning, Alias, Constant, Thing, Function, function_ref, known, is_sized}
 use Rattle.c_tree.specs.RuleTypes.{is_void, is_function}
 use Rattle.c_tree.specs.RuleValues.{used, to_type, wide, widen, meeting, integer, scalar, is_object_pointer, target_is_sized, is_place, is_open, are_alike, are_integers, is_with_zero, is_taken, taken, is_scalar}
 
@@ -27,30 +26,9 @@ as_expr (Some (Constant n)) = Is (e.name (num Int) (e.Const n))
 as_expr (Some (Thing r t)) = Is (e.name t r)
 as_expr (Some (Function s r t)) = Is (e.name t r)
 
--- a declarator that agrees with the function that a call of an undeclared name declares
-abbrev pub is_plain_function : Item → Bool
-is_plain_function i = is_outside i.bound && same_type i.declr.ty (fun (num Int))
-  where
-    is_outside : Bound → Bool
-    is_outside OutsideFunction = true
-    is_outside _ = false
-
--- the same of a body
-abbrev pub is_plain_body : Func → Bool
-is_plain_body f = not f.is_static && same_type f.result (num Int)
-
-abbrev pub bodies_agree : Name → List Func → Bool
-bodies_agree x [] = true
-bodies_agree x (f ∷ fs) = pick (same_name x f.name) (is_plain_body f) true && bodies_agree x fs
-
--- rule 1: a name that is called undeclared is declared so, and each declaration at file level that follows agrees
-abbrev pub agree_with_call : Name → List Item → Bool
-agree_with_call x [] = true
-agree_with_call x (i ∷ is) = pick (same_name x i.declr.name) (is_plain_function i) true && agree_with_call x is
-
 -- the name of a called function; one that is not declared is an external function that returns int
 abbrev pub called_name : Env → Name → Option Meaning → Judged TExpr
-called_name c x None = provided 1 (agree_with_call x c.items && bodies_agree x c.funcs) (Is (e.name (fun (num Int)) (function_ref c false x)))
+called_name c x None = Is (e.name (fun (num Int)) (function_ref c false x))
 called_name c x (Some m) = as_expr (Some m)
 
 -- numbers
@@ -200,7 +178,7 @@ post_op so.Dec = e.PostDec
 
 -- rule 5 and rule 3: the size that `sizeof` gives is known
 abbrev pub size_of : Env → TExpr → Judged TExpr
-size_of c x = provided 5 (not (is_open (type_of x))) (provided 3 (is_sized c.known (type_of x)) (Is (e.size_of x)))
+size_of c x = provided 5 (not (is_open (type_of x))) (provided 3 (is_sized (known c) (type_of x)) (Is (e.size_of x)))
 
 -- Rule 22: from an integer to an integer type, from the constant 0 to a pointer type, from a pointer to its own type, or
 -- from anything to void.
@@ -225,7 +203,7 @@ with_member (Some p) make = Is (make p.0 p.1)
 
 -- a member of a structure that is closed
 abbrev pub member_of : Env → CType → Name → (ℕ → CType → TExpr) → Judged TExpr
-member_of c (struct k) x make = provided 3 (is_sized c.known (struct k)) (with_member (member_from 0 (at_or no_tag c.tags k).members x) make)
+member_of c (struct k) x make = provided 3 (is_sized (known c) (struct k)) (with_member (member_from 0 (at_or no_tag c.tags k).members x) make)
 member_of c _ x make = Fails 19
 
 -- rule 19: `.` takes a structure's place and a member of that name
@@ -249,7 +227,7 @@ may_be_set x = is_place x && (is_scalar (type_of x) || is_structure (type_of x))
 
 -- rule 21: a structure takes a place of the same type, and the assignment is void
 abbrev pub copied : Env → TExpr → TExpr → Judged TExpr
-copied c x y = provided 21 (is_place y && same_type (type_of x) (type_of y)) (provided 3 (is_sized c.known (type_of x)) (Is (e.assign void x y)))
+copied c x y = provided 21 (is_place y && same_type (type_of x) (type_of y)) (provided 3 (is_sized (known c) (type_of x)) (Is (e.assign void x y)))
 
 -- rule 21: integers take integers, a pointer the same type or the constant 0
 abbrev pub assign : Env → TExpr → TExpr → Judged TExpr

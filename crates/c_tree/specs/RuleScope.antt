@@ -1,15 +1,13 @@
 -- What names and tags mean where they stand.
-use Rattle.std.specs.Prelude.{ℕ, suc, ◌+◌, List, [], ◌∷◌, length, Option, Some, None, Bool, true, false, nat_lt, ◌&&◌}
+use Rattle.std.specs.Prelude.{ℕ, suc, ◌+◌, List, [], ◌∷◌, ◌++◌, length, Option, Some, None, Bool, true, false, not, nat_lt, ◌&&◌}
 use Rattle.c_type.specs.Names.{Name, same_name, pick, or_else}
 use Rattle.c_type.specs.declared.TagKind.{TagKind}
 use Rattle.c_type.specs.declared.TagKind.TheVariants.{Struct, Union, Enum}
 use Rattle.c_type.specs.Types.{CType, arr, struct, union, enum, Tag}
+use Rattle.c_type.specs.Sizes.{laid_as}
+use Rattle.c_tree.specs.TreeExpr.{Expr}
 use Rattle.c_tree.specs.TExpr.{Ref, Func as OwnFunc, Outer}
-use Rattle.c_tree.specs.TStmt.{TStmt}
-use Rattle.c_tree.specs.TUnit.{Func, Item}
-use Rattle.c_tree.specs.Starts.{starts_stmt}
-use Rattle.c_tree.specs.Mentions.{Mention, Text, Own, in_stmt}
-use Rattle.c_tree.specs.Bodies.{autos_stmt}
+use Rattle.c_tree.specs.RuleTexts.{texts_in}
 
 -- the outcome of a rule: what it gives, or its number where it fails
 pub data Judged (A : Type 0) : Type 0 where
@@ -37,50 +35,55 @@ pub record Entry : Type 0 where
   pub name : Name
   pub meaning : Meaning
 
--- Where an expression stands. `blocks` are the scopes inside a function from the inside, the last of them with its
--- parameters. `file` is the scope of the file up to there. `known` counts the tags whose body is closed, and `starts`,
--- `autos`, `statics` and `texts` the numbers that were given up to there. `tags`, `bytes`, `funcs` and `items` are the
--- tags, the texts, the function bodies and the declarators of the whole unit.
+-- a tag that a unit defines, by its name, which is empty where it has none, and its kind
+pub record TagHead : Type 0 where
+  pub name : Name
+  pub kind : TagKind
+
+-- a function body of a unit
+pub record Body : Type 0 where
+  pub name : Name
+  pub is_static : Bool
+
+-- Where a part of a unit stands. `blocks` are the scopes inside a function from the inside, the last of them with its
+-- parameters. `file` is the scope of the file up to there. `tags` are those whose body is closed and `texts` the texts that
+-- were met up to there; `starts`, `autos` and `statics` count the numbers that were given. `heads` and `bodies` are the tags
+-- and the function bodies of the whole unit.
 pub record Env : Type 0 where
   pub blocks : List (List Entry)
   pub file : List Entry
-  pub known : ℕ
+  pub tags : List Tag
+  pub texts : List (List ℕ)
   pub starts : ℕ
   pub autos : ℕ
   pub statics : ℕ
-  pub texts : ℕ
-  pub tags : List Tag
-  pub bytes : List (List ℕ)
-  pub funcs : List Func
-  pub items : List Item
+  pub heads : List TagHead
+  pub bodies : List Body
 
-abbrev pub text_count : List Mention → ℕ
-text_count [] = 0
-text_count (Text k ∷ ms) = suc (text_count ms)
-text_count (_ ∷ ms) = text_count ms
+-- behind texts that were met
+abbrev pub met : List (List ℕ) → Env → Env
+met bs c = record c { texts = c.texts ++ bs }
 
-abbrev pub own_count : List Mention → ℕ
-own_count [] = 0
-own_count (Own k t i ∷ ms) = suc (own_count ms)
-own_count (_ ∷ ms) = own_count ms
+-- behind an expression
+abbrev pub past : Expr → Env → Env
+past a c = met (texts_in a) c
 
--- behind what says so much of texts
-abbrev pub past : List Mention → Env → Env
-past ms c = record c { texts = c.texts + text_count ms }
-
--- behind a statement
-abbrev pub past_stmt : TStmt → Env → Env
-past_stmt x c =
-    record c {
-      starts = c.starts + length (starts_stmt x);
-      autos = c.autos + length (autos_stmt x);
-      statics = c.statics + own_count (in_stmt x);
-      texts = c.texts + text_count (in_stmt x);
-    }
+-- behind an expression that may be left out
+abbrev pub past_option : Option Expr → Env → Env
+past_option None c = c
+past_option (Some a) c = past a c
 
 -- behind the starts of that number
 abbrev pub started : ℕ → Env → Env
 started n c = record c { starts = c.starts + n }
+
+-- the number of tags that are closed
+abbrev pub known : Env → ℕ
+known c = length c.tags
+
+-- behind the closing brace of a tag's body; its sizes and offsets are those that its members' types give
+abbrev pub close : Tag → Env → Env
+close r c = record c { tags = c.tags ++ laid_as r.kind c.tags r ∷ [] }
 
 -- what a name means in one scope; the latest declaration stands first
 abbrev pub in_scope : Name → List Entry → Option Meaning
@@ -106,28 +109,28 @@ type_of_tag Struct k = struct k
 type_of_tag Union k = union k
 type_of_tag Enum k = enum k
 
--- rule 3: a tag that is named is defined in the unit, with that kind
-abbrev pub tag_from : ℕ → List Tag → TagKind → Name → Judged CType
+-- rule 3: a tag that is named is defined in the unit, with that kind; its number is its place among the closing braces
+abbrev pub tag_from : ℕ → List TagHead → TagKind → Name → Judged CType
 tag_from k [] kind x = Fails 3
 tag_from k (t ∷ ts) kind x = pick (same_name x t.name) (provided 3 (same_kind kind t.kind) (Is (type_of_tag kind k))) (tag_from (suc k) ts kind x)
 
+abbrev pub same_bool : Bool → Bool → Bool
+same_bool true b = b
+same_bool false b = not b
+
 -- the number of a function body of the unit, static or external
-abbrev pub body_from : ℕ → List Func → Bool → Name → Option ℕ
+abbrev pub body_from : ℕ → List Body → Bool → Name → Option ℕ
 body_from k [] is_static x = None
 body_from k (f ∷ fs) is_static x = pick (same_name x f.name && same_bool is_static f.is_static) (Some k) (body_from (suc k) fs is_static x)
-  where
-    same_bool : Bool → Bool → Bool
-    same_bool true true = true
-    same_bool false false = true
-    same_bool _ _ = false
 
+-- body k of the unit, or a function that the unit does not define
 abbrev pub ref_or_outer : Name → Option ℕ → Ref
 ref_or_outer x None = Outer x
 ref_or_outer x (Some k) = OwnFunc k
 
--- what a function's name is bound to: the unit's own body, or a function that the unit does not define
+-- what a function's name is bound to
 abbrev pub function_ref : Env → Bool → Name → Ref
-function_ref c is_static x = ref_or_outer x (body_from 0 c.funcs is_static x)
+function_ref c is_static x = ref_or_outer x (body_from 0 c.bodies is_static x)
 
 -- the whole size of a type is known: each structure that it holds by value is closed
 abbrev pub is_sized : ℕ → CType → Bool

@@ -1,21 +1,18 @@
 -- The rules on the bodies of tags, and the types that words name outside of blocks.
-use Rattle.std.specs.Prelude.{◌≡◌, ℕ, suc, ◌+◌, ◌%◌, ◌<◌, List, [], ◌∷◌, ◌++◌, length, map, Option, Some, None, Bool, true, false, not, ◌&&◌, ◌||◌}
-use Rattle.std.specs.List.{flat_map}
-use Rattle.c_type.specs.Names.{Name, same_name, at_or, or_default}
+use Rattle.std.specs.Prelude.{◌≡◌, ℕ, ◌+◌, ◌%◌, List, [], ◌∷◌, ◌++◌, map, Option, Some, None, Bool, true, false, not, ◌&&◌, ◌||◌}
+use Rattle.c_type.specs.Names.{Name, same_name, or_default}
 use Rattle.c_type.specs.declared.Kind.TheVariants.{Int}
+use Rattle.c_type.specs.declared.TagKind.{TagKind}
 use Rattle.c_type.specs.declared.TagKind.TheVariants.{Struct, Enum}
 use Rattle.c_type.specs.Types.{CType, num, struct, enum, Tag, Member}
-use Rattle.c_type.specs.Sizes.{no_tag}
 use Rattle.c_tree.specs.TreeDecl as ud
 use Rattle.c_tree.specs.TreeExpr.{Expr}
-use Rattle.c_tree.specs.TExpr.{TExpr}
 use Rattle.c_tree.specs.TStmt.{Declr}
 use Rattle.c_tree.specs.TUnit as t
 use Rattle.c_tree.specs.TUnit.{Spec, Mems, Enumerator}
-use Rattle.c_tree.specs.Mentions.{in_declr, in_enumerator}
-use Rattle.c_tree.specs.RuleScope.{Is, Env, Entry, Constant, is_sized, past}
+use Rattle.c_tree.specs.RuleScope.{Is, Env, Entry, Constant, known, is_sized, close, past_option}
 use Rattle.c_tree.specs.RuleTypes.{is_function, spec_type}
-use Rattle.c_tree.specs.RuleDecls.{IsConstant, IsDeclr}
+use Rattle.c_tree.specs.RuleDecls.{Number, IsConstant, past_declr, IsDeclr}
 use Rattle.c_tree.specs.RuleStmts.{is_free}
 
 -- tags
@@ -28,7 +25,7 @@ next_value (Some n) = (n + 1) % 4294967296
 -- an enumerator's value: that of its constant, or the next one
 abbrev pub IsValued : Env → Option ℕ → Option Expr → Enumerator → Type 0
 IsValued c before None y = (y.expr ≡ None) × (y.value ≡ next_value before)
-IsValued c before (Some a) y = (v : TExpr) × IsConstant c a v y.value × (y.expr ≡ Some v)
+IsValued c before (Some a) y = (k : Number) × IsConstant c a k × (y.value ≡ k.bits) × (y.expr ≡ Some k.expr)
 
 abbrev pub IsEnumerator : Env → Option ℕ → ud.En → Enumerator → Type 0
 IsEnumerator c before x y = (y.name ≡ x.name) × IsValued c before x.value y
@@ -41,20 +38,17 @@ abbrev pub AreEnumerators : Env → Option ℕ → List ud.En → List Enumerato
 AreEnumerators c before [] ys c' = (ys ≡ []) × (c' ≡ c)
 AreEnumerators c before (x ∷ xs) ys c' =
     (y : Enumerator) × (rest : List Enumerator) × IsEnumerator c before x y × (is_free x.name c.file ≡ true) ×
-    AreEnumerators (in_file (record { name = x.name; meaning = Constant y.value }) (past (in_enumerator y) c)) (Some y.value) xs rest c' × (ys ≡ y ∷ rest)
+    AreEnumerators (in_file (record { name = x.name; meaning = Constant y.value }) (past_option x.value c)) (Some y.value) xs rest c' × (ys ≡ y ∷ rest)
 
 -- rule 7: a member is no function; rule 3: its size is known
-abbrev pub AreMembers : Env → CType → List ud.Declr → List Declr → Type 0
-AreMembers c base [] ys = ys ≡ []
-AreMembers c base (d ∷ ds) ys =
-    (y : Declr) × (rest : List Declr) × IsDeclr c None base d y × (is_function y.ty ≡ false) × (is_sized c.known y.ty ≡ true) × AreMembers (past (in_declr y) c) base ds rest × (ys ≡ y ∷ rest)
+abbrev pub AreMembers : Env → CType → List ud.Declr → List Declr → Env → Type 0
+AreMembers c base [] ys c' = (ys ≡ []) × (c' ≡ c)
+AreMembers c base (d ∷ ds) ys c' =
+    (y : Declr) × (rest : List Declr) × IsDeclr c None base d y × (is_function y.ty ≡ false) × (is_sized (known c) y.ty ≡ true) ×
+    AreMembers (past_declr d c) base ds rest c' × (ys ≡ y ∷ rest)
 
 abbrev pub member_of : Declr → Member
 member_of d = record { name = d.name; off = 0; ty = d.ty }
-
--- a member without its offset
-abbrev pub bare : Member → Member
-bare m = record m { off = 0 }
 
 -- rule 7: the members of a structure have different names
 abbrev pub names_differ : List Name → Bool
@@ -65,20 +59,13 @@ names_differ (x ∷ xs) = not (stands x xs) && names_differ xs
     stands x [] = false
     stands x (y ∷ ys) = same_name x y || stands x ys
 
--- the tag of a structure's body: its name, which is empty where it has none, and its members
-abbrev pub IsStructTag : Tag → Option Name → List Member → Type 0
-IsStructTag r x ms = (r.name ≡ or_default [] x) × (r.kind ≡ Struct) × (map bare r.members ≡ ms) × (names_differ (map (λ m. m.name) r.members) ≡ true)
+-- a tag before its members are placed; its name is empty where it has none
+abbrev pub unplaced : Option Name → TagKind → List Member → Tag
+unplaced x kind ms = record { name = or_default [] x; kind = kind; members = ms; size = 0; align = 1 }
 
--- the tag of an enumeration's body: each enumerator is a member whose offset is its value
-abbrev pub IsEnumTag : Tag → Option Name → List Enumerator → Type 0
-IsEnumTag r x es =
-    (r.name ≡ or_default [] x) × (r.kind ≡ Enum) × (r.members ≡ map (λ y. record { name = y.name; off = y.value; ty = num Int }) es)
-
-abbrev pub close : Env → Env
-close c = record c { known = suc c.known }
-
-abbrev pub tag_at : Env → Tag
-tag_at c = at_or no_tag c.tags c.known
+-- an enumerator is a member whose offset is its value
+abbrev pub as_member : Enumerator → Member
+as_member y = record { name = y.name; off = y.value; ty = num Int }
 
 -- The type that words name outside of blocks, with the tags that they define. A body is closed behind its parts, and gets
 -- the next number. No text spells the body of a union.
@@ -89,12 +76,12 @@ abbrev mutual
 
   pub IsDef : Env → ud.TagDef → Spec → CType → Env → Type 0
   IsDef c (ud.struct l x ms) s base c' =
-      (ys : Mems) × (members : List Member) × (c1 : Env) × AreMems c ms ys members c1 × (c1.known < length c1.tags) × IsStructTag (tag_at c1) x members ×
-      (s ≡ t.struct_body c1.known ys) × (base ≡ struct c1.known) × (c' ≡ close c1)
+      (ys : Mems) × (members : List Member) × (c1 : Env) × AreMems c ms ys members c1 × (names_differ (map (λ m. m.name) members) ≡ true) ×
+      (s ≡ t.struct_body (known c1) ys) × (base ≡ struct (known c1)) × (c' ≡ close (unplaced x Struct members) c1)
   IsDef c (ud.union l x ms) s base c' = ⊥
   IsDef c (ud.enum l x es) s base c' =
-      (ys : List Enumerator) × (c1 : Env) × AreEnumerators c None es ys c1 × (c1.known < length c1.tags) × IsEnumTag (tag_at c1) x ys ×
-      (s ≡ t.enum_body c1.known ys) × (base ≡ enum c1.known) × (c' ≡ close c1)
+      (ys : List Enumerator) × (c1 : Env) × AreEnumerators c None es ys c1 ×
+      (s ≡ t.enum_body (known c1) ys) × (base ≡ enum (known c1)) × (c' ≡ close (unplaced x Enum (map as_member ys)) c1)
 
   -- the members of a body in order, without offsets
   pub AreMems : Env → ud.Mems → Mems → List Member → Env → Type 0
@@ -104,7 +91,7 @@ abbrev mutual
       (ys ≡ t.more_mems s ds rest) × (members ≡ map member_of ds ++ others)
 
   pub IsMem : Env → ud.Mem → Spec → List Declr → Env → Type 0
-  IsMem c (ud.mem l y ds) s xs c' = (base : CType) × (c1 : Env) × AreTypes c y s base c1 × AreMembers c1 base ds xs × (c' ≡ past (flat_map in_declr xs) c1)
+  IsMem c (ud.mem l y ds) s xs c' = (base : CType) × (c1 : Env) × AreTypes c y s base c1 × AreMembers c1 base ds xs c'
 
 -- words that may be left out mean int
 abbrev pub AreTypesOrInt : Env → Option ud.Types → Spec → CType → Env → Type 0

@@ -5,7 +5,7 @@ use Rattle.c_type.specs.Types.{CType, num, void, ptr, arr, enum, fun, same_type}
 use Rattle.c_type.specs.declared.Kind.TheVariants.{Int}
 use Rattle.c_tree.specs.TreeExpr as u
 use Rattle.c_tree.specs.TreeExpr.{TypeSpec, TypeName}
-use Rattle.c_tree.specs.RuleScope.{Judged, Is, Fails, onward, provided, Env, Meaning, Alias, meaning_of, tag_from, is_sized}
+use Rattle.c_tree.specs.RuleScope.{Judged, Is, Fails, onward, provided, Env, Meaning, Alias, meaning_of, known, tag_from, is_sized}
 
 abbrev pub is_void : CType → Bool
 is_void void = true
@@ -68,7 +68,7 @@ joined a b = pick (same_type a b) (Some a) None
 -- the type of a declarator, by rules 4, 5, 6 and 3
 abbrev pub declared_type : Env → CType → Judged CType
 declared_type c t =
-    provided 4 (void_is_a_result t) (provided 5 (elements_are_objects t) (provided 6 (functions_return t) (provided 3 (elements_are_sized c.known t) (Is t))))
+    provided 4 (void_is_a_result t) (provided 5 (elements_are_objects t) (provided 6 (functions_return t) (provided 3 (elements_are_sized (known c) t) (Is t))))
 
 abbrev pub as_alias : Option Meaning → Judged CType
 as_alias (Some (Alias t)) = Is t
@@ -78,7 +78,7 @@ as_alias _ = Fails 2
 abbrev pub spec_type : Env → TypeSpec → Judged CType
 spec_type c (u.num k) = Is (num k)
 spec_type c u.void = Is void
-spec_type c (u.tag t) = tag_from 0 c.tags t.kind t.name
+spec_type c (u.tag t) = tag_from 0 c.heads t.kind t.name
 spec_type c (u.named x) = as_alias (meaning_of c x)
 
 -- words that may be left out mean int
@@ -100,4 +100,4 @@ cast_type c y = onward (spec_type c y.types) (λ t. void_or (pointer_to y.stars 
 
 -- the type behind `sizeof` has a size
 abbrev pub sized_type : Env → TypeName → Judged CType
-sized_type c y = onward (spec_type c y.types) (λ t. onward (declared_type c (pointer_to y.stars t)) (λ r. provided 3 (is_sized c.known r) (Is r)))
+sized_type c y = onward (spec_type c y.types) (λ t. onward (declared_type c (pointer_to y.stars t)) (λ r. provided 3 (is_sized (known c) r) (Is r)))

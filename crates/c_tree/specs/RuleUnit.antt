@@ -1,10 +1,9 @@
 -- The rules on declarations at file level, and which typed unit belongs to a unit.
-use Rattle.std.specs.Prelude.{◌≡◌, ℕ, suc, List, [], ◌∷◌, ◌++◌, length, map, Option, Some, None, Bool, true, false, not, ◌&&◌, ◌||◌}
+use Rattle.std.specs.Prelude.{◌≡◌, ℕ, suc, List, [], ◌∷◌, map, Option, Some, None, Bool, true, false, ◌&&◌, ◌||◌}
 use Rattle.std.specs.List.{flat_map}
 use Rattle.c_type.specs.Names.{Name, pick, same_name}
 use Rattle.c_type.specs.declared.Kind.TheVariants.{Int}
-use Rattle.c_type.specs.Types.{CType, num, ptr, arr, struct, union, fun, Tag, same_type}
-use Rattle.c_type.specs.Sizes.{IsLaid}
+use Rattle.c_type.specs.Types.{CType, num, ptr, arr, struct, union, fun, same_type}
 use Rattle.c_tree.specs.declared.decl.Storage.TheVariants as sg
 use Rattle.c_tree.specs.TreeDecl as ud
 use Rattle.c_tree.specs.TreeDecl.{Storage}
@@ -13,15 +12,14 @@ use Rattle.c_tree.specs.TreeStmt.{Block}
 use Rattle.c_tree.specs.TreeUnit as uu
 use Rattle.c_tree.specs.TExpr as e
 use Rattle.c_tree.specs.TStmt as st
-use Rattle.c_tree.specs.TStmt.{Declr, TStmts}
+use Rattle.c_tree.specs.TStmt.{Declr}
 use Rattle.c_tree.specs.TUnit as t
-use Rattle.c_tree.specs.TUnit.{Spec, Item, ParDecl, Var, Func, TExt, TypedUnit, Own, Outside, Elsewhere, OwnFunction, OutsideFunction, funcs_of}
-use Rattle.c_tree.specs.Scope.{items_of}
-use Rattle.c_tree.specs.Mentions.{in_declr, in_begin}
-use Rattle.c_tree.specs.RuleScope.{Is, Env, Entry, Meaning, Alias, Thing, Function, in_scope, function_ref, is_sized, past, past_stmt, started}
+use Rattle.c_tree.specs.TUnit.{Spec, Item, ParDecl, Var, Func, TExt, TypedUnit, Own, Outside, Elsewhere, OwnFunction, OutsideFunction}
+use Rattle.c_tree.specs.RuleNames.{storage_of, types_of, tags_in, bodies_in, defined_in, tag_names}
+use Rattle.c_tree.specs.RuleScope.{Is, Env, Entry, Meaning, Alias, Thing, Function, in_scope, function_ref, same_bool, known, is_sized, started}
 use Rattle.c_tree.specs.RuleTypes.{is_function, spec_type, joined}
-use Rattle.c_tree.specs.RuleDecls.{IsDeclr, Begins}
-use Rattle.c_tree.specs.RuleStmts.{is_free, is_static, missing, AreDecls, AreStmts}
+use Rattle.c_tree.specs.RuleDecls.{past_declr, IsDeclr, Begins}
+use Rattle.c_tree.specs.RuleStmts.{is_free, is_static, missing, Place, AreDecls, AreStmts}
 use Rattle.c_tree.specs.RuleTags.{names_differ, AreTypes, IsDef, AreTypesOrInt, in_file}
 
 -- declarations again
@@ -29,10 +27,6 @@ use Rattle.c_tree.specs.RuleTags.{names_differ, AreTypes, IsDef, AreTypesOrInt, 
 abbrev pub is_own : e.Ref → Bool
 is_own (e.Static k) = true
 is_own _ = false
-
-abbrev pub same_bool : Bool → Bool → Bool
-same_bool true b = b
-same_bool false b = not b
 
 abbrev pub object_again : e.Ref → Option CType → Option Meaning
 object_again r None = None
@@ -76,15 +70,16 @@ IsElsewhere c d i x c' = (i ≡ None) × DeclaresInFile c d.name (Thing (e.Ext d
 -- an external object, whose initialiser may name it
 abbrev pub IsOutside : Env → Declr → Option ud.Init → Item → Env → Type 0
 IsOutside c d i x c' =
-    (j : Option st.Init) × (c1 : Env) × (is_sized c.known d.ty ≡ true) × DeclaresInFile c d.name (Thing (e.Ext d.name) d.ty) c1 × Begins c1 d.ty i j ×
-    (x ≡ record { declr = d; bound = Outside; init = j }) × (c' ≡ past (in_begin j) c1)
+    (j : Option st.Init) × (c1 : Env) × (is_sized (known c) d.ty ≡ true) × DeclaresInFile c d.name (Thing (e.Ext d.name) d.ty) c1 × Begins c1 d.ty i j c' ×
+    (x ≡ record { declr = d; bound = Outside; init = j })
 
 -- a static object, whose initialiser may name it
 abbrev pub IsOwn : Env → Declr → Option ud.Init → Item → Env → Type 0
 IsOwn c d i x c' =
-    (j : Option st.Init) × (c1 : Env) × (is_sized c.known d.ty ≡ true) × DeclaresInFile c d.name (Thing (e.Static (own_number c (in_scope d.name c.file))) d.ty) c1 ×
-    Begins c1 d.ty i j × (x ≡ record { declr = d; bound = Own (own_number c (in_scope d.name c.file)); init = j }) ×
-    (c' ≡ past (in_begin j) (record c1 { statics = next_static c (in_scope d.name c.file) }))
+    (j : Option st.Init) × (c1 : Env) × (c2 : Env) × (is_sized (known c) d.ty ≡ true) ×
+    DeclaresInFile c d.name (Thing (e.Static (own_number c (in_scope d.name c.file))) d.ty) c1 × Begins c1 d.ty i j c2 ×
+    (x ≡ record { declr = d; bound = Own (own_number c (in_scope d.name c.file)); init = j }) ×
+    (c' ≡ record c2 { statics = next_static c (in_scope d.name c.file) })
 
 -- what a declarator declares, by its type and its storage word
 abbrev pub IsItemBy : Bool → Option Storage → Env → Declr → Option ud.Init → Item → Env → Type 0
@@ -98,14 +93,14 @@ abbrev pub AreItems : Env → Option Storage → CType → List ud.Item → List
 AreItems c s base [] xs c' = (xs ≡ []) × (c' ≡ c)
 AreItems c s base (i ∷ is) xs c' =
     (d : Declr) × (x : Item) × (rest : List Item) × (c1 : Env) × IsDeclr c (missing s i.init) base i.declr d ×
-    IsItemBy (is_function d.ty) s (past (in_declr d) c) d i.init x c1 × AreItems c1 s base is rest c' × (xs ≡ x ∷ rest)
+    IsItemBy (is_function d.ty) s (past_declr i.declr c) d i.init x c1 × AreItems c1 s base is rest c' × (xs ≡ x ∷ rest)
 
 -- typedef names; rule 1: each is new in the file
 abbrev pub AreAliases : Env → CType → List ud.Declr → List Declr → Env → Type 0
 AreAliases c base [] xs c' = (xs ≡ []) × (c' ≡ c)
 AreAliases c base (d ∷ ds) xs c' =
     (x : Declr) × (rest : List Declr) × IsDeclr c None base d x × (is_free x.name c.file ≡ true) ×
-    AreAliases (in_file (record { name = x.name; meaning = Alias x.ty }) (past (in_declr x) c)) base ds rest c' × (xs ≡ x ∷ rest)
+    AreAliases (in_file (record { name = x.name; meaning = Alias x.ty }) (past_declr d c)) base ds rest c' × (xs ≡ x ∷ rest)
 
 -- functions
 
@@ -133,17 +128,18 @@ is_structure (union k) = true
 is_structure _ = false
 
 -- rule 8: each declared parameter is in the list and no structure; an outermost dimension may be missing
-abbrev pub AreParameters : Env → List Name → CType → List ud.Declr → List Declr → Type 0
-AreParameters c xs base [] ys = ys ≡ []
-AreParameters c xs base (d ∷ ds) ys =
-    (y : Declr) × (rest : List Declr) × IsDeclr c (Some 0) base d y × (is_listed y.name xs ≡ true) × (is_structure y.ty ≡ false) × AreParameters (past (in_declr y) c) xs base ds rest × (ys ≡ y ∷ rest)
+abbrev pub AreParameters : Env → List Name → CType → List ud.Declr → List Declr → Env → Type 0
+AreParameters c xs base [] ys c' = (ys ≡ []) × (c' ≡ c)
+AreParameters c xs base (d ∷ ds) ys c' =
+    (y : Declr) × (rest : List Declr) × IsDeclr c (Some 0) base d y × (is_listed y.name xs ≡ true) × (is_structure y.ty ≡ false) ×
+    AreParameters (past_declr d c) xs base ds rest c' × (ys ≡ y ∷ rest)
 
 -- the declarations of parameters
 abbrev pub AreParDecls : Env → List Name → List ud.ParDecl → List ParDecl → Env → Type 0
 AreParDecls c xs [] ys c' = (ys ≡ []) × (c' ≡ c)
 AreParDecls c xs (p ∷ ps) ys c' =
-    (s : Spec) × (base : CType) × (ds : List Declr) × (rest : List ParDecl) × (c1 : Env) × AreTypes c p.types s base c1 × AreParameters c1 xs base p.declrs ds ×
-    AreParDecls (past (flat_map in_declr ds) c1) xs ps rest c' × (ys ≡ record { spec = s; declrs = ds } ∷ rest)
+    (s : Spec) × (base : CType) × (ds : List Declr) × (rest : List ParDecl) × (c1 : Env) × (c2 : Env) × AreTypes c p.types s base c1 ×
+    AreParameters c1 xs base p.declrs ds c2 × AreParDecls c2 xs ps rest c' × (ys ≡ record { spec = s; declrs = ds } ∷ rest)
 
 -- rule 8: the type of a name of the list: that of its declaration, or int
 abbrev pub parameter_type : Name → List Declr → CType
@@ -161,28 +157,33 @@ parameter_scope i (v ∷ vs) = record { name = v.name; meaning = Thing (e.Param 
 abbrev pub declared_in : List ParDecl → List Declr
 declared_in ps = flat_map (λ p. p.declrs) ps
 
-abbrev pub storage_of : Option ud.FileSpecs → Option Storage
-storage_of None = None
-storage_of (Some s) = s.storage
+-- behind the opening brace of a function's body
+abbrev pub in_body : List Var → Env → Env
+in_body vs c = record (started 1 c) { blocks = parameter_scope 0 vs ∷ []; autos = 0 }
 
-abbrev pub types_of : Option ud.FileSpecs → Option ud.Types
-types_of None = None
-types_of (Some s) = s.types
+abbrev pub at_body : CType → Place
+at_body r = record { loop = false; breaks = false; result = r }
 
--- behind statements
-abbrev pub past_stmts : TStmts → Env → Env
-past_stmts st.no_stmts c = c
-past_stmts (st.more_stmts x xs) c = past_stmts xs (past_stmt x c)
+-- the parameters of a function with the names of its list
+abbrev pub parameters : ud.Declr → List ParDecl → List Var
+parameters h ys = map (as_var (declared_in ys)) (list_of h)
 
--- Rule 1: the names of the list differ, and each is declared once. The parameters and the outermost block are one scope.
+-- rule 1: the names of a function's list differ, and each is declared once
+abbrev pub names_of : List ParDecl → List Name
+names_of ys = map (λ y. y.name) (declared_in ys)
+
+-- the head of a function d with the declarations ys of its parameters, which stand before its own name is in scope
+abbrev pub IsHead : Env → Bool → ud.Declr → Declr → List ud.ParDecl → List ParDecl → Env → Type 0
+IsHead c s h d ps ys c' =
+    (c1 : Env) × AreParDecls c (list_of h) ps ys c1 × (names_differ (list_of h) ≡ true) × (names_differ (names_of ys) ≡ true) ×
+    DeclaresInFile c1 d.name (Function s (function_ref c1 s d.name) d.ty) c'
+
+-- A function with its body. The parameters and the outermost block are one scope.
 abbrev pub IsBody : Env → Bool → ud.Declr → Declr → List ud.ParDecl → Block → Func → Env → Type 0
 IsBody c s h d ps b f c' =
-    (c1 : Env) × (c2 : Env) × (c3 : Env) × (d.ty ≡ fun f.result) × (f.name ≡ d.name) × (f.is_static ≡ s) ×
-    AreParDecls c (list_of h) ps f.declared c1 × (names_differ (list_of h) ≡ true) × (names_differ (map (λ y. y.name) (declared_in f.declared)) ≡ true) ×
-    (f.params ≡ map (as_var (declared_in f.declared)) (list_of h)) × DeclaresInFile c1 d.name (Function s (function_ref c1 s d.name) d.ty) c2 ×
-    AreDecls (record (started 1 c2) { blocks = parameter_scope 0 f.params ∷ []; autos = 0 }) b.decls f.locals c3 ×
-    AreStmts c3 (record { loop = false; breaks = false; result = f.result }) b.stmts f.stmts × (f.line ≡ b.line) × (f.close_line ≡ b.close_line) ×
-    (f.open_ ≡ c2.starts) × (f.close ≡ (past_stmts f.stmts c3).starts) × (c' ≡ record (started 1 (past_stmts f.stmts c3)) { blocks = []; file = c2.file })
+    (c1 : Env) × (c2 : Env) × (c3 : Env) × (d.ty ≡ fun f.result) × IsHead c s h d ps f.declared c1 × AreDecls (in_body (parameters h f.declared) c1) b.decls f.locals c2 ×
+    AreStmts c2 (at_body f.result) b.stmts f.stmts c3 × (f.name ≡ d.name) × (f.is_static ≡ s) × (f.params ≡ parameters h f.declared) ×
+    (f.line ≡ b.line) × (f.close_line ≡ b.close_line) × (f.open_ ≡ c1.starts) × (f.close ≡ c3.starts) × (c' ≡ record (started 1 c3) { blocks = [] })
 
 -- units
 
@@ -202,38 +203,16 @@ abbrev pub AreExts : Env → List uu.Ext → List TExt → Env → Type 0
 AreExts c [] xs c' = (xs ≡ []) × (c' ≡ c)
 AreExts c (y ∷ ys) xs c' = (x : TExt) × (rest : List TExt) × (c1 : Env) × IsExt c y x c1 × AreExts c1 ys rest c' × (xs ≡ x ∷ rest)
 
--- the names that an initialiser or a body defines at file level
-abbrev pub defined_by : Item → List Name
-defined_by i = by_init i.init
-  where
-    by_init : Option st.Init → List Name
-    by_init None = []
-    by_init (Some j) = i.declr.name ∷ []
+-- the environment before the first part of a unit
+abbrev pub at_first : uu.Unit → Env
+at_first y = record { blocks = []; file = []; tags = []; texts = []; starts = 0; autos = 0; statics = 0; heads = tags_in y; bodies = bodies_in y }
 
-abbrev pub defined : TypedUnit → List Name
-defined x = flat_map defined_by (items_of x.exts) ++ map (λ f. f.name) (funcs_of x.exts)
-
--- the names of tags that have one
-abbrev pub tag_names : List Tag → List Name
-tag_names [] = []
-tag_names (r ∷ rs) = named r.name (tag_names rs)
-  where
-    named : Name → List Name → List Name
-    named [] xs = xs
-    named (b ∷ bs) xs = (b ∷ bs) ∷ xs
-
--- before the first part of a unit
-abbrev pub at_first : TypedUnit → Env
-at_first x = record { blocks = []; file = []; known = 0; starts = 0; autos = 0; statics = 0; texts = 0; tags = x.tags; bytes = x.texts; funcs = funcs_of x.exts; items = items_of x.exts }
-
--- The typed unit that belongs to a unit: its parts meet the rules; each name has at most one initialiser or body (rule 1);
--- each tag is defined once (rule 3); the tags are those that are closed, with the sizes of their members; the texts are
--- those that were met.
+-- The typed unit that belongs to a unit: its parts meet the rules, each where those before it stand; each name has at most
+-- one initialiser or body (rule 1); each tag is defined once (rule 3). Its tags and texts are those that the parts met.
 pub record IsTyped (y : uu.Unit) (x : TypedUnit) : Type 0 where
   pub last : Env
-  pub parts : AreExts (at_first x) y.exts x.exts last
-  pub defined_once : names_differ (defined x) ≡ true
-  pub tags_once : names_differ (tag_names x.tags) ≡ true
-  pub tags_closed : last.known ≡ length x.tags
-  pub laid : IsLaid x.tags
-  pub texts_met : last.texts ≡ length x.texts
+  pub parts : AreExts (at_first y) y.exts x.exts last
+  pub defined_once : names_differ (defined_in y) ≡ true
+  pub tags_once : names_differ (tag_names (tags_in y)) ≡ true
+  pub tags : x.tags ≡ last.tags
+  pub texts : x.texts ≡ last.texts

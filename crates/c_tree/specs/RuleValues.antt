@@ -6,7 +6,7 @@ use Rattle.c_type.specs.declared.Kind.TheVariants.{Int}
 use Rattle.c_type.specs.Types.{CType, num, ptr, arr, struct, union, enum, fun, Tag, same_type, is_integer, is_pointer}
 use Rattle.c_tree.specs.TExpr.{TExpr, Ref, Local, Param, Static, Ext, name, text, deref, index, member, arrow, convert, decay, designate, type_of}
 use Rattle.c_tree.specs.Constant.{is_zero}
-use Rattle.c_tree.specs.RuleScope.{Judged, Is, Fails, onward, provided, Env, is_sized}
+use Rattle.c_tree.specs.RuleScope.{Judged, Is, Fails, onward, provided, Env, known, is_sized}
 
 -- an expression of that type used as a value: an array and a function become pointers; a structure has no value, by rule 21
 abbrev pub used_as : CType → TExpr → Judged TExpr
@@ -55,7 +55,7 @@ is_object_pointer _ = false
 
 -- rule 3: what moves a pointer needs the size of what it points to
 abbrev pub target_is_sized : Env → CType → Bool
-target_is_sized c (ptr t) = is_sized c.known t
+target_is_sized c (ptr t) = is_sized (known c) t
 target_is_sized c _ = true
 
 abbrev pub is_variable : Ref → Bool
@@ -100,3 +100,7 @@ is_taken c t w =
 -- rule 21: what a place of type t takes, or what takes it as by that rule
 abbrev pub taken : (rule : ℕ) → Env → CType → TExpr → Judged TExpr
 taken n c t w = provided n (is_taken c t w) (Is (to_type t w))
+
+-- an expression as the value of a place of that type, by the rule of what takes it
+abbrev pub value_for : (rule : ℕ) → Env → CType → TExpr → Judged TExpr
+value_for n c t x = onward (used x) (taken n c t)

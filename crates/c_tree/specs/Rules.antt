@@ -2,7 +2,8 @@
 
 -- rule 1: a name is declared once in its scope, and at file level again with the same type and choice of `static`
 pub use Rattle.c_tree.specs.RuleStmts.{Declares}
-pub use Rattle.c_tree.specs.RuleUnit.{DeclaresInFile, defined}
+pub use Rattle.c_tree.specs.RuleUnit.{DeclaresInFile}
+pub use Rattle.c_tree.specs.RuleNames.{defined_in}
 -- rule 2: a name in an expression is declared before it; a called name that is not is an external function returning int
 pub use Rattle.c_tree.specs.RuleExprs.{as_expr, called_name}
 -- rule 3: a tag is defined once, with its kind; a size is needed only behind the definition
@@ -12,19 +13,19 @@ pub use Rattle.c_tree.specs.RuleValues.{target_is_sized}
 -- rule 4: void is a function's result or the type of a cast
 pub use Rattle.c_tree.specs.RuleTypes.{void_is_a_result, cast_type}
 -- rule 5: a dimension is a constant of at least 1, missing only where it may be; no element is a function
-pub use Rattle.c_tree.specs.RuleDecls.{IsDerived}
+pub use Rattle.c_tree.specs.RuleDecls.{dimension_of, IsDerived}
 pub use Rattle.c_tree.specs.RuleStmts.{missing}
 pub use Rattle.c_tree.specs.RuleTypes.{elements_are_objects}
 -- rule 6: what a function returns
 pub use Rattle.c_tree.specs.RuleTypes.{functions_return}
 -- rule 7: members have different names and are no functions
-pub use Rattle.c_tree.specs.RuleTags.{AreMembers, IsStructTag}
+pub use Rattle.c_tree.specs.RuleTags.{AreMembers, names_differ}
 -- rule 8: parameters are in the list; those that are not declared are int
 pub use Rattle.c_tree.specs.RuleUnit.{AreParameters, parameter_type, as_parameter}
 -- rule 9: constants
-pub use Rattle.c_tree.specs.RuleDecls.{IsConstant}
+pub use Rattle.c_tree.specs.RuleDecls.{constant_of}
 -- rule 10: an initialiser of static life
-pub use Rattle.c_tree.specs.RuleDecls.{IsInit, is_known}
+pub use Rattle.c_tree.specs.RuleDecls.{IsInit, first_value, is_known}
 -- rule 11: an automatic initialiser
 pub use Rattle.c_tree.specs.RuleDecls.{IsAutoInit}
 -- rule 12: operators of integers
@@ -35,7 +36,7 @@ pub use Rattle.c_tree.specs.RuleExprs.{sum, difference}
 pub use Rattle.c_tree.specs.RuleExprs.{order, equality}
 -- rule 15: tests
 pub use Rattle.c_tree.specs.RuleExprs.{two_tests, denial}
-pub use Rattle.c_tree.specs.RuleStmts.{IsTest}
+pub use Rattle.c_tree.specs.RuleValues.{scalar}
 -- rule 16: the branches of `? :`
 pub use Rattle.c_tree.specs.RuleExprs.{choice}
 -- rule 17: `*` and `&`
@@ -53,6 +54,6 @@ pub use Rattle.c_tree.specs.RuleValues.{used, taken}
 -- rule 22: casts
 pub use Rattle.c_tree.specs.RuleExprs.{cast}
 -- rule 23: the value of `return`
-pub use Rattle.c_tree.specs.RuleStmts.{IsReturned}
+pub use Rattle.c_tree.specs.RuleStmts.{returned}
 -- rule 24: `break`, `continue` and `switch`
 pub use Rattle.c_tree.specs.RuleStmts.{IsStmt, labels_differ}

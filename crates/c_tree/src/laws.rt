@@ -1,5 +1,5 @@
 // Laws of runs of the source machine, and of the typed trees.
-ghost use Rattle.c_tree.specs.Laws.{HasFuel, Halts, StopsAt, EndsAlike, OneTypedExpr, OneTypedUnit};
+ghost use Rattle.c_tree.specs.Laws.{HasFuel, Halts, StopsAt, EndsAlike, FailsApart, FailsByNumber, OneTypedExpr, OneTypedUnit, TagsAreLaid};
 
 /// A run with stop number n never wants for fuel: each call of a body and each round of a loop begins a turn.
 #[tactic(auto, using(crate::proofs::LaterRun::has_fuel))]
@@ -40,9 +40,31 @@ pub fn expression_has_one_type()
     // The law is all that is promised.
 }
 
-/// A unit has at most one typed unit with the same tags, texts, bodies and declarators.
+/// A unit has at most one typed unit.
 pub fn unit_has_one_type()
     ensures law { OneTypedUnit }
+{
+    // The law is all that is promised.
+}
+
+/// A unit in which a rule fails has no typed unit.
+pub fn failed_rule_leaves_no_type()
+    ensures law { FailsApart }
+{
+    // The law is all that is promised.
+}
+
+/// A rule that fails in a unit is one of the 24.
+pub fn failed_rule_is_one_of_24()
+    ensures law { FailsByNumber }
+{
+    // The law is all that is promised.
+}
+
+/// A tag of a typed unit holds by value earlier tags alone, and has the sizes and offsets that the
+/// types of its members give.
+pub fn typed_tags_are_laid()
+    ensures law { TagsAreLaid }
 {
     // The law is all that is promised.
 }

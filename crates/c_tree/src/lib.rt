@@ -23,7 +23,8 @@ mod typed_stmt;
 mod typed_unit;
 
 pub use laws::{
-    each_run_halts, end_is_final, expression_has_one_type, fuel_is_enough, stop_is_exact,
+    each_run_halts, end_is_final, expression_has_one_type, failed_rule_is_one_of_24,
+    failed_rule_leaves_no_type, fuel_is_enough, stop_is_exact, typed_tags_are_laid,
     unit_has_one_type,
 };
 pub use start_lines::starts;
