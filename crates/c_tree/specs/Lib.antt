@@ -49,4 +49,7 @@ pub mod RuleUnit
 pub mod RuleFails
 pub mod RuleFailsUnit
 pub mod Rules
+pub mod JoinSaid
+pub mod JoinTypes
+pub mod JoinChecks
 pub mod Laws
