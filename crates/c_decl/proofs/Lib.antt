@@ -14,3 +14,5 @@ pub mod DeclTakes
 pub mod OutsideTakes
 pub mod Expressions
 pub mod Joined
+pub mod Standing
+pub mod Behind

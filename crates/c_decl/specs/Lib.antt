@@ -6,3 +6,4 @@ pub mod ReadSpecs
 pub mod ReadDecl
 pub mod Laws
 pub mod Named
+pub mod Answers

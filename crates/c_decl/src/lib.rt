@@ -7,6 +7,8 @@
 ghost use Rattle.c_decl.specs.Laws.{IsHeadRead, IsLocalRead, IsWholeRead};
 
 mod names;
+mod front;
+mod reader;
 
 use c_tree::{Declr, Ext, FileSpecs, ParDecl};
 pub use names::{declared_name, declares_function};
