@@ -16,3 +16,6 @@ pub mod Expressions
 pub mod Joined
 pub mod Standing
 pub mod Behind
+pub mod Depths
+pub mod Loops
+pub mod Suffixes

@@ -23,6 +23,15 @@ impl Reader<'_> {
         self.tokens.list.get(at)
     }
 
+    /// The number of tokens from a place on.
+    #[tactic(auto, unfolding(crate::specs::Answers::rest))]
+    pub fn left(&self, at: usize) -> usize
+        ensures count { result ≡ length (rest self.now at) }
+        ensures few { result < 4294967295 }
+    {
+        self.tokens.list.len().saturating_sub(at)
+    }
+
     /// The place behind the mark, where it stands here.
     pub fn eat(&self, mark: u8, at: usize) -> Option<usize>
         ensures place { option_map (λ k. rest self.now k) result ≡ f.eat mark (rest self.now at) }

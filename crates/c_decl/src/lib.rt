@@ -6,7 +6,10 @@
 
 ghost use Rattle.c_decl.specs.Laws.{IsHeadRead, IsLocalRead, IsWholeRead};
 
+mod marks;
 mod names;
+mod declarators;
+mod depth;
 mod front;
 mod reader;
 
