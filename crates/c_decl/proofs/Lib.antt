@@ -18,4 +18,6 @@ pub mod Standing
 pub mod Behind
 pub mod Depths
 pub mod Loops
+pub mod Members
+pub mod Groups
 pub mod Suffixes

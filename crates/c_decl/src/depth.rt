@@ -4,10 +4,13 @@
 // before it. So no tree is walked further down than the number says.
 ghost use Rattle.std.specs.Prelude.{◌≡◌, nat_lt, map};
 ghost use Rattle.c_tree.specs.TreeExpr.{expr_depth, exprs_depth, type_depth, optional, deepest};
-ghost use Rattle.c_tree.specs.TreeDecl.{declr_depth};
-ghost use Rattle.c_tree.specs.TreeOf.{expr_of, exprs_from, type_spec_of, declr_of, part_of};
+ghost use Rattle.c_tree.specs.TreeDecl.{declr_depth, init_depth, inits_depth, item_depth, en_depth, types_depth, def_depth, mem_depth, mems_depth, tag_depth, par_depth, local_depth, local_specs_depth};
+ghost use Rattle.c_tree.specs.TreeOf.{expr_of, exprs_from, type_spec_of, declr_of, part_of, init_of, inits_from, item_of, en_of, types_of, def_of, mem_of, mems_from, tag_of, par_of, local_of, local_specs_of};
 
-use c_tree::{Declr, Expr, TypeSpec};
+use c_tree::{
+    Declr, En, Expr, Init, Item, LocalDecl, LocalSpecs, Mem, ParDecl, TagDef, TagSpec, TypeSpec,
+    Types,
+};
 
 /// The greatest depth of a tree.
 pub const MAX_DEPTH: u32 = 200;
@@ -76,4 +79,192 @@ pub fn declr_exceeds(declr: &Declr, most: u32) -> bool
         Declr::Array(_, inner, Some(e)) => declr_exceeds(inner, left) || expr_exceeds(e, left),
         Declr::Function(_, inner, _) => declr_exceeds(inner, left),
     }
+}
+
+/// Whether one of the declarators is deeper than the number.
+pub fn declrs_exceed(declrs: &[Declr], most: u32) -> bool
+    ensures { result ≡ nat_lt most (deepest declr_depth (map declr_of declrs.now)) }
+{
+    for declr in declrs {
+        if declr_exceeds(declr, most) {
+            return true;
+        }
+    }
+    false
+}
+
+#[cycle(inits)]
+fn inits_exceed(inits: &[Init], most: u32) -> bool
+    ensures { result ≡ nat_lt most (inits_depth (inits_from inits.now)) }
+{
+    for init in inits {
+        if init_exceeds(init, most) {
+            return true;
+        }
+    }
+    false
+}
+
+/// Whether an initialiser is deeper than the number.
+#[cycle(inits)]
+pub fn init_exceeds(init: &Init, most: u32) -> bool
+    ensures { result ≡ nat_lt most (init_depth (init_of init.now)) }
+{
+    if most == 0 {
+        return true;
+    }
+    match init {
+        Init::Single(e) => expr_exceeds(e, most - 1),
+        Init::Group(_, members) => inits_exceed(members, most - 1),
+    }
+}
+
+/// Whether a declarator with its initialiser is deeper than the number.
+pub fn item_exceeds(item: &Item, most: u32) -> bool
+    ensures { result ≡ nat_lt most (item_depth (item_of item.now)) }
+{
+    if most == 0 || declr_exceeds(&item.declr, most - 1) {
+        return true;
+    }
+    match &item.init {
+        None => false,
+        Some(init) => init_exceeds(init, most - 1),
+    }
+}
+
+/// Whether one of the items is deeper than the number.
+pub fn items_exceed(items: &[Item], most: u32) -> bool
+    ensures { result ≡ nat_lt most (deepest item_depth (map item_of items.now)) }
+{
+    for item in items {
+        if item_exceeds(item, most) {
+            return true;
+        }
+    }
+    false
+}
+
+/// Whether an enumerator is deeper than the number.
+pub fn en_exceeds(en: &En, most: u32) -> bool
+    ensures { result ≡ nat_lt most (en_depth (en_of en.now)) }
+{
+    if most == 0 {
+        return true;
+    }
+    match &en.value {
+        None => false,
+        Some(value) => expr_exceeds(value, most - 1),
+    }
+}
+
+fn ens_exceed(ens: &[En], most: u32) -> bool
+    ensures { result ≡ nat_lt most (deepest en_depth (map en_of ens.now)) }
+{
+    for en in ens {
+        if en_exceeds(en, most) {
+            return true;
+        }
+    }
+    false
+}
+
+#[cycle(types)]
+fn mems_exceed(mems: &[Mem], most: u32) -> bool
+    ensures { result ≡ nat_lt most (mems_depth (mems_from mems.now)) }
+{
+    for mem in mems {
+        if mem_exceeds(mem, most) {
+            return true;
+        }
+    }
+    false
+}
+
+/// Whether a declaration of members is deeper than the number.
+#[cycle(types)]
+pub fn mem_exceeds(mem: &Mem, most: u32) -> bool
+    ensures { result ≡ nat_lt most (mem_depth (mem_of mem.now)) }
+{
+    most == 0 || types_exceed(&mem.types, most - 1) || declrs_exceed(&mem.declrs, most - 1)
+}
+
+/// Whether a tag's body is deeper than the number.
+#[cycle(types)]
+pub fn def_exceeds(def: &TagDef, most: u32) -> bool
+    ensures { result ≡ nat_lt most (def_depth (def_of def.now)) }
+{
+    if most == 0 {
+        return true;
+    }
+    match def {
+        TagDef::Struct(_, _, mems) => mems_exceed(mems, most - 1),
+        TagDef::Union(_, _, mems) => mems_exceed(mems, most - 1),
+        TagDef::Enum(_, _, ens) => ens_exceed(ens, most - 1),
+    }
+}
+
+/// Whether a type is deeper than the number.
+#[cycle(types)]
+pub fn types_exceed(types: &Types, most: u32) -> bool
+    ensures { result ≡ nat_lt most (types_depth (types_of types.now)) }
+{
+    match types {
+        Types::Spec(spec) => type_exceeds(spec, most),
+        Types::Def(def) => def_exceeds(def, most),
+    }
+}
+
+/// Whether a type that may be missing is deeper than the number.
+pub fn optional_types_exceed(types: &Option<Types>, most: u32) -> bool
+    ensures { result ≡ nat_lt most (optional types_depth (part_of types_of types.now)) }
+{
+    match types {
+        None => false,
+        Some(types) => types_exceed(types, most),
+    }
+}
+
+/// Whether a tag is deeper than the number.
+pub fn tag_exceeds(tag: &TagSpec, most: u32) -> bool
+    ensures { result ≡ nat_lt most (tag_depth (tag_of tag.now)) }
+{
+    match tag {
+        TagSpec::Ref(_) => most == 0,
+        TagSpec::Def(def) => def_exceeds(def, most),
+    }
+}
+
+/// Whether a declaration of parameters is deeper than the number.
+pub fn par_exceeds(par: &ParDecl, most: u32) -> bool
+    ensures { result ≡ nat_lt most (par_depth (par_of par.now)) }
+{
+    most == 0 || types_exceed(&par.types, most - 1) || declrs_exceed(&par.declrs, most - 1)
+}
+
+/// Whether one of the declarations of parameters is deeper than the number.
+pub fn pars_exceed(pars: &[ParDecl], most: u32) -> bool
+    ensures { result ≡ nat_lt most (deepest par_depth (map par_of pars.now)) }
+{
+    for par in pars {
+        if par_exceeds(par, most) {
+            return true;
+        }
+    }
+    false
+}
+
+fn local_specs_exceed(specs: &LocalSpecs, most: u32) -> bool
+    ensures { result ≡ nat_lt most (local_specs_depth (local_specs_of specs.now)) }
+{
+    match &specs.types {
+        None => false,
+        Some(types) => type_exceeds(types, most),
+    }
+}
+
+/// Whether a declaration in a block is deeper than the number.
+pub fn local_exceeds(local: &LocalDecl, most: u32) -> bool
+    ensures { result ≡ nat_lt most (local_depth (local_of local.now)) }
+{
+    most == 0 || local_specs_exceed(&local.specs, most - 1) || items_exceed(&local.items, most - 1)
 }

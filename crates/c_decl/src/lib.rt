@@ -6,6 +6,7 @@
 
 ghost use Rattle.c_decl.specs.Laws.{IsHeadRead, IsLocalRead, IsWholeRead};
 
+mod initialisers;
 mod marks;
 mod names;
 mod declarators;

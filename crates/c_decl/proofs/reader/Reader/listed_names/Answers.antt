@@ -2,7 +2,7 @@ use Rattle.std.proofs.Common.{◌∙◌, sym}
 use Rattle.std.proofs.lemmas.Result.{err_from_is_err_and}
 use Rattle.c_expr.specs.Front.{name_at}
 use Rattle.c_decl.specs.Answers.{names, rest}
-use Rattle.c_decl.proofs.Loops.{begins, failed, ends, goes_on, runs_out}
+use Rattle.c_decl.proofs.Members.{begins, failed, ends, goes_on, runs_out}
 use Rattle.c_decl.proofs.reader.Reader.listed_names.Goals as goal
 
 pub loop-turn-init : goal.loop-turn-init
@@ -11,7 +11,7 @@ loop-turn-init c = rw (c.new-listed.ensures.items) (begins (name_at (names c.arg
 pub returns-in_err-name : goal.returns-in_err-name
 returns-in_err-name c =
     let p = err_from_is_err_and c.from_residual.result c.from_residual.ensures.1 in
-    rw (← c.left-turn-end.ensures.count) (failed (name_at (names c.args.self.now)) _ _ _ _ _ _ _ _ p.1 p.2 c.loop-turn.invariant c.in_err-name.ensures)
+    rw (← c.left-turn-end.ensures.count) (failed (name_at (names c.args.self.now)) _ _ _ _ _ _ _ _ _ p.1 p.2 c.loop-turn-test.true c.loop-turn.invariant c.in_err-name.ensures)
 
 pub returns-in-None : goal.returns-in-None
 returns-in-None c =
