@@ -7,3 +7,4 @@ pub mod ReadDecl
 pub mod Laws
 pub mod Named
 pub mod Answers
+pub mod WordsOf

@@ -17,7 +17,7 @@ use num_le::Name;
 impl Reader<'_> {
     /// The token at a place.
     #[tactic(auto, unfolding(crate::specs::Answers::rest))]
-    fn token(&self, at: usize) -> Option<&Token>
+    pub fn token(&self, at: usize) -> Option<&Token>
         ensures { Stands result self.now at }
     {
         self.tokens.list.get(at)

@@ -13,6 +13,7 @@ mod declarators;
 mod depth;
 mod front;
 mod reader;
+mod words;
 
 use c_tree::{Declr, Ext, FileSpecs, ParDecl};
 pub use names::{declared_name, declares_function};
