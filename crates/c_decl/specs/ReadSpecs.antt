@@ -13,7 +13,7 @@ use Rattle.c_tree.specs.TreeDecl.{Types, TagDef, Mem, Mems, En, def_depth, mem_d
 use Rattle.c_tree.specs.TreeDecl as t
 use Rattle.c_tree.specs.WrittenType.{TypePart, word_part, tag_part, name_part, is_typedef, spelled}
 use Rattle.c_tree.specs.WrittenDeclr.{plain_if}
-use Rattle.c_tree.specs.WrittenSpecs.{first_of, is_type}
+use Rattle.c_tree.specs.WrittenSpecs.{first_of, is_type, is_type_or_none}
 use Rattle.c_expr.specs.Front.{Read, ◌>>=◌, eat, line_at, any_name, name_at, grown}
 use Rattle.c_decl.specs.Separated.{separated}
 use Rattle.c_decl.specs.ReadDeclr as r
@@ -122,6 +122,10 @@ no_body kind l x ts = None
 abbrev pub types_found : Found → Option Types
 types_found f = or_else (plain_if t.def (first_of f.bodies)) (plain_if t.spec (spelled f.parts))
 
+-- the type of the bodies and parts, where they are one type or none
+abbrev pub one_type : List TagDef → List TypePart → Option (Option Types)
+one_type ds ps = pick (is_type_or_none (length ds) ps) (Some (or_else (plain_if t.def (first_of ds)) (plain_if t.spec (spelled ps)))) None
+
 abbrev pub no_storage : List Storage → Bool
 no_storage [] = true
 no_storage (s ∷ ss) = false
@@ -137,6 +141,10 @@ module _ (defs : List Name) (most : ℕ) (expr : ℕ → List Token → Read Exp
 
   abbrev pub en : List Token → Read En
   en ts = name_at defs ts >>= λ x. en_by (line_at ts) x.0 x.1 (eat equals x.1)
+
+  -- an enumeration behind its opening brace
+  abbrev pub enum_by : ℕ → Option Name → List Token → Read TagDef
+  enum_by l x ts = separated en (length ts) ts >>= λ es. eat close_brace es.1 >>= λ after. grown def_depth most (t.enum l x es.0) after
 
   -- a declaration of members behind its words
   abbrev pub mem_by : ℕ → Option Types → List Token → Read Mem
@@ -159,7 +167,7 @@ module _ (defs : List Name) (most : ℕ) (expr : ℕ → List Token → Read Exp
     abbrev pub body_by : TagKind → ℕ → Option Name → List Token → Read TagDef
     body_by Struct l x ts = mems (length ts) ts >>= λ ms. grown def_depth most (t.struct l x ms.0) ms.1
     body_by Union l x ts = None
-    body_by Enum l x ts = separated en (length ts) ts >>= λ es. eat close_brace es.1 >>= λ after. grown def_depth most (t.enum l x es.0) after
+    body_by Enum l x ts = enum_by l x ts
 
   -- The words outside of blocks. The number bounds how deep bodies stand in one another.
   unfoldable pub file_words : ℕ → List Token → Read Found

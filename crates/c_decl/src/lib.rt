@@ -9,10 +9,12 @@ ghost use Rattle.c_decl.specs.Laws.{IsHeadRead, IsLocalRead, IsWholeRead};
 mod initialisers;
 mod marks;
 mod names;
+mod bodies;
 mod declarators;
 mod depth;
 mod front;
 mod reader;
+mod types;
 mod words;
 
 use c_tree::{Declr, Ext, FileSpecs, ParDecl};

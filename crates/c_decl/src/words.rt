@@ -86,7 +86,7 @@ fn word_start<'a>(word: u8) -> Start<'a>
 }
 
 impl Words {
-    fn new(alloc: Global) -> Words
+    pub fn new(alloc: Global) -> Words
         ensures empty { found_of result ≡ s.nothing }
         ensures none { result.typedefs ≡ 0 }
     {
@@ -99,7 +99,7 @@ impl Words {
     }
 
     /// One word more.
-    fn add(&mut self, word: Word) -> Result<(), ParseErr>
+    pub fn add(&mut self, word: Word) -> Result<(), ParseErr>
         requires few { self.old.typedefs < 4294967295 }
         ensures added { IfOk result (λ _. found_of self.new ≡ s.and_word (found_of self.old) (word_of word)) }
         ensures few { self.new.typedefs ≤ self.old.typedefs + 1 }
@@ -117,7 +117,7 @@ impl Words {
 
 impl Reader<'_> {
     /// What the token at a place begins.
-    fn start(&self, at: usize) -> Start<'_>
+    pub fn start(&self, at: usize) -> Start<'_>
         ensures { start_of result ≡ s.start_at (names self.now) (rest self.now at) }
     {
         match self.token(at) {
@@ -134,7 +134,7 @@ impl Reader<'_> {
     }
 
     /// The place behind a token.
-    fn behind(&self, at: usize) -> usize
+    pub fn behind(&self, at: usize) -> usize
         ensures { rest self.now result ≡ s.behind (rest self.now at) }
     {
         match self.token(at) {
