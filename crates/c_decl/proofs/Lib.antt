@@ -20,4 +20,6 @@ pub mod Depths
 pub mod Loops
 pub mod Members
 pub mod Groups
+pub mod Worded
+pub mod MemTurns
 pub mod Suffixes
