@@ -14,7 +14,7 @@ use Rattle.c_tree.specs.Reads.{Spells}
 use Rattle.c_expr.specs.Front.{Read, ◌>>=◌, eat, line_at, name_at, grown}
 use Rattle.c_decl.specs.Separated.{separated}
 use Rattle.c_decl.specs.ReadDeclr as r
-use Rattle.c_decl.specs.ReadDecl.{is_name}
+use Rattle.c_decl.specs.Named.{is_name}
 use Rattle.c_decl.proofs.DeclrAgain.{IsLoose, declr_line_at}
 use Rattle.c_expr.proofs.Taken.{some_is, bind_some, chosen, eat_takes, name_takes}
 use Rattle.c_decl.proofs.SeparatedTakes.{grown_takes, separated_takes}

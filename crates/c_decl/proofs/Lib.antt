@@ -22,4 +22,5 @@ pub mod Members
 pub mod Groups
 pub mod Worded
 pub mod MemTurns
+pub mod ParTurns
 pub mod Suffixes

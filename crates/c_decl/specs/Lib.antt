@@ -8,3 +8,4 @@ pub mod Laws
 pub mod Named
 pub mod Answers
 pub mod WordsOf
+pub mod HeadOf

@@ -5,8 +5,11 @@
 ghost use Rattle.std.specs.Prelude.{◌≡◌, nat_lt, map};
 ghost use Rattle.c_tree.specs.TreeExpr.{expr_depth, exprs_depth, type_depth, optional, deepest};
 ghost use Rattle.c_tree.specs.TreeDecl.{declr_depth, init_depth, inits_depth, item_depth, en_depth, types_depth, def_depth, mem_depth, mems_depth, tag_depth, par_depth, local_depth, local_specs_depth};
+ghost use Rattle.c_tree.specs.TreeUnit.{head_depth};
+ghost use Rattle.c_decl.specs.HeadOf.{head_of};
 ghost use Rattle.c_tree.specs.TreeOf.{expr_of, exprs_from, type_spec_of, declr_of, part_of, init_of, inits_from, item_of, en_of, types_of, def_of, mem_of, mems_from, tag_of, par_of, local_of, local_specs_of};
 
+use crate::FuncHead;
 use c_tree::{
     Declr, En, Expr, Init, Item, LocalDecl, LocalSpecs, Mem, ParDecl, TagDef, TagSpec, TypeSpec,
     Types,
@@ -267,4 +270,18 @@ pub fn local_exceeds(local: &LocalDecl, most: u32) -> bool
     ensures { result ≡ nat_lt most (local_depth (local_of local.now)) }
 {
     most == 0 || local_specs_exceed(&local.specs, most - 1) || items_exceed(&local.items, most - 1)
+}
+
+/// Whether a function without its block is deeper than the number.
+pub fn head_exceeds(head: &FuncHead, most: u32) -> bool
+    ensures { result ≡ nat_lt most (head_depth (head_of head.now)) }
+{
+    if most == 0 {
+        return true;
+    }
+    let specs = match &head.specs {
+        None => false,
+        Some(specs) => optional_types_exceed(&specs.types, most - 1),
+    };
+    specs || declr_exceeds(&head.declr, most - 1) || pars_exceed(&head.params, most - 1)
 }

@@ -1,5 +1,5 @@
 // What the words before declarators say.
-ghost use Rattle.std.specs.Prelude.{◌≡◌, ◌∷◌, [], IfOk, map};
+ghost use Rattle.std.specs.Prelude.{◌≡◌, ◌∷◌, [], IfOk, map, not};
 ghost use Rattle.std.specs.Option.{option_map};
 ghost use Rattle.c_tree.specs.TreeOf.{def_of, file_specs_of, local_specs_of, part_of, tag_of, type_spec_of, types_of};
 ghost use Rattle.c_tree.specs.WrittenSpecs as p;
@@ -97,19 +97,26 @@ pub fn typedef_types(alloc: Global, words: Words) -> Result<Option<Option<Types>
     one_type(alloc, bodies, parts)
 }
 
+/// Whether there is none of the words that an object or a function may have.
+fn is_none(words: &Words) -> bool
+    ensures { result ≡ not (e.is_any (found_of words.now).storages (found_of words.now).parts (found_of words.now).bodies) }
+{
+    words.storages.is_empty() && words.parts.is_empty() && words.bodies.is_empty()
+}
+
 /// The words of objects or a function.
 pub fn file_specs(alloc: Global, words: Words) -> Result<Option<FileSpecs>, AllocError>
     ensures specs { IfOk result (λ o. part_of file_specs_of o ≡ e.file_specs (found_of words)) }
 {
+    if is_none(&words) {
+        return Ok(None);
+    }
     let Words {
         storages,
         typedefs,
         parts,
         bodies,
     } = words;
-    if storages.is_empty() && parts.is_empty() && bodies.is_empty() {
-        return Ok(None);
-    }
     if typedefs != 0 || !is_file_storage(&storages) {
         return Ok(None);
     }
@@ -127,7 +134,7 @@ pub fn head_specs(alloc: Global, words: Words) -> Result<Option<Option<FileSpecs
     if words.typedefs != 0 {
         return Ok(None);
     }
-    if words.storages.is_empty() && words.parts.is_empty() && words.bodies.is_empty() {
+    if is_none(&words) {
         return Ok(Some(None));
     }
     match file_specs(alloc, words)? {
