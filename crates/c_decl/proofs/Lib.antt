@@ -23,4 +23,5 @@ pub mod Groups
 pub mod Worded
 pub mod MemTurns
 pub mod ParTurns
+pub mod Standings
 pub mod Suffixes

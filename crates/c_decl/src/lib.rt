@@ -15,12 +15,14 @@ mod declarators;
 mod depth;
 mod front;
 mod outside;
+mod places;
 mod reader;
 mod types;
 mod words;
 
 use c_tree::{Declr, Ext, FileSpecs, ParDecl};
 pub use names::{declared_name, declares_function};
+pub use places::{external, local};
 
 /// The parts of a function but for its block, with the line of its first token, counted from 1.
 #[derive(Drop)]
