@@ -24,4 +24,5 @@ pub mod Worded
 pub mod MemTurns
 pub mod ParTurns
 pub mod Standings
+pub mod Spelled
 pub mod Suffixes

@@ -1,5 +1,6 @@
 -- The words of the code as data.
-use Rattle.std.specs.Prelude.{List, Option, Some, None, map}
+use Rattle.std.specs.Prelude.{List, Vec, map}
+use Rattle.std.specs.Global.{Global}
 use Rattle.c_tree.specs.Words as w
 use Rattle.c_tree.specs.WrittenType as p
 use Rattle.c_tree.specs.TreeOf.{def_of}
@@ -43,3 +44,7 @@ start_of (b.Typed x) = s.typed (type_word_of x)
 start_of (b.Tag kind) = s.tag kind
 start_of (b.Named x) = s.named x.now
 start_of b.Nothing = s.ends
+
+-- the words of the code in a list
+abbrev pub words_of : Vec TypeWord Global → List w.TypeWord
+words_of v = map type_word_of v.items

@@ -17,6 +17,7 @@ mod front;
 mod outside;
 mod places;
 mod reader;
+mod spelling;
 mod types;
 mod words;
 

@@ -1,23 +1,16 @@
 // What the words before declarators say.
 ghost use Rattle.std.specs.Prelude.{◌≡◌, ◌∷◌, [], IfOk, map, not};
 ghost use Rattle.std.specs.Option.{option_map};
-ghost use Rattle.c_tree.specs.TreeOf.{def_of, file_specs_of, local_specs_of, part_of, tag_of, type_spec_of, types_of};
+ghost use Rattle.c_tree.specs.TreeOf.{def_of, file_specs_of, local_specs_of, part_of, tag_of, types_of};
 ghost use Rattle.c_tree.specs.WrittenSpecs as p;
-ghost use Rattle.c_tree.specs.WrittenType as t;
 ghost use Rattle.c_decl.specs.ReadDecl as e;
 ghost use Rattle.c_decl.specs.ReadSpecs as s;
 ghost use Rattle.c_decl.specs.WordsOf.{found_of, type_part_of};
 
+use crate::spelling::spelled;
 use crate::words::{TypePart, Words};
-use c_tree::{FileSpecs, LocalSpecs, Storage, TagDef, TagSpec, TypeSpec, Types};
+use c_tree::{FileSpecs, LocalSpecs, Storage, TagDef, TagSpec, Types};
 use std::alloc::{AllocError, Global};
-
-/// The type that parts spell.
-fn spelled(alloc: Global, parts: Vec<TypePart>) -> Result<Option<TypeSpec>, AllocError>
-    ensures { IfOk result (λ o. part_of type_spec_of o ≡ t.spelled (map type_part_of parts.items)) }
-{
-    Err(AllocError)
-}
 
 /// The type of tags' bodies and of parts, where they are one type or none.
 fn one_type(
