@@ -1,9 +1,9 @@
 -- The tokens behind an expression are those from a place on.
-use Rattle.std.proofs.Common.{◌≡◌, ℕ, ◌+◌, ◌-◌, ◌<◌, ◌≤◌, zero, suc, List, [], ◌∷◌, length, drop, Option, Some, None, Result, Ok, Err, IfOk, refl, ap, arith, sym, ◌∙◌, length-drop, drop-drop}
+use Rattle.std.proofs.Common.{◌≡◌, ℕ, ◌+◌, ◌≤◌, zero, suc, List, [], ◌∷◌, length, drop, Option, Some, None, Result, Ok, Err, IfOk, refl, ap, arith, sym, ◌∙◌, drop-drop}
 use Rattle.c_type.specs.Names.{Name}
 use Rattle.c_type.specs.Tokens.{Token}
 use Rattle.c_type.specs.Tokens as k
-use Rattle.c_tree.specs.Words.{tok, mark, word, assign_mark, binary_mark, step_mark, type_word, tag_word, comma_mark, question, colon, open_square, close_square, open_round, close_round, dot_mark, arrow_mark, star}
+use Rattle.c_tree.specs.Words.{tok, mark, assign_mark, binary_mark, step_mark, comma_mark, question, colon, open_square, close_square, open_round, close_round, dot_mark, arrow_mark}
 use Rattle.c_tree.specs.TreeExpr.{Expr}
 use Rattle.c_tree.specs.WrittenType.{TypePart, word_part, tag_part, name_part, spell_part, spell_parts, spell_stars, spell_name, WrittenName}
 use Rattle.c_tree.specs.WrittenExpr.{Written}

@@ -1,5 +1,5 @@
 -- Each tree is at least one deep, and one with a row of parts is one deeper than its deepest part.
-use Rattle.std.proofs.Common.{◌≡◌, ℕ, ◌+◌, ◌-◌, ◌<◌, ◌≤◌, max, Bool, true, false, Option, map, nat_lt, refl, ap, arith, sym, ◌∙◌, Vec, Box, Global}
+use Rattle.std.proofs.Common.{◌≡◌, ℕ, ◌+◌, ◌-◌, ◌≤◌, max, Bool, true, false, Option, map, nat_lt, refl, ap, arith, sym, ◌∙◌, Vec, Box, Global}
 use Rattle.std.proofs.lemmas.Bool.{lt-ltb}
 use mathlib.Core.Former.{Count}
 use Rattle.c_tree.specs.declared.expr.Expr.{Expr, Call}

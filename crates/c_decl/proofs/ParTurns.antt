@@ -1,5 +1,5 @@
 -- One turn of the loop over the declarations of parameters.
-use Rattle.std.proofs.Common.{◌≡◌, ℕ, ◌<◌, ◌≤◌, ◌-◌, ◌+◌, zero, suc, List, [], ◌∷◌, ◌++◌, Option, Some, None, Result, Err, refl, ap, sym, ◌∙◌}
+use Rattle.std.proofs.Common.{◌≡◌, ℕ, ◌<◌, ◌≤◌, ◌-◌, ◌+◌, suc, List, [], ◌∷◌, ◌++◌, Some, None, Result, Err, refl, ap, ◌∙◌}
 use Rattle.c_type.specs.Names.{Name}
 use Rattle.c_type.specs.Tokens.{Token}
 use Rattle.c_tree.specs.Words.{open_brace}

@@ -1,5 +1,5 @@
 -- What is read at a place stands there, and where nothing is read nothing stands.
-use Rattle.std.proofs.Common.{◌≡◌, ◌≤◌, ℕ, List, [], ◌∷◌, length, drop, Option, Some, None, Result, Ok, Err, IfOk, refl, ap, subst, arith, sym, ◌∙◌, true}
+use Rattle.std.proofs.Common.{◌≡◌, ◌≤◌, ℕ, List, length, drop, Some, None, Result, Ok, Err, IfOk, refl, ap, subst, arith, sym, ◌∙◌, true}
 use Rattle.c_type.specs.Names.{Name}
 use Rattle.c_type.specs.Tokens.{Token}
 use Rattle.c_tree.specs.Words.{open_brace}
@@ -19,7 +19,7 @@ use Rattle.c_decl.specs.declared.Head.{Head}
 use Rattle.c_decl.specs.declared.Head.TheVariants.{Whole, Func}
 use Rattle.c_decl.specs.Answers.{Gives}
 use Rattle.c_decl.specs.Expression.{expression}
-use Rattle.c_decl.specs.Found.{IsFoundAt}
+use Rattle.c_decl.specs.FoundAt.{IsFoundAt}
 use Rattle.c_decl.specs.HeadOf.{head_of, outside_of}
 use Rattle.c_decl.specs.ReadDecl as e
 use Rattle.c_decl.proofs.Expressions.{expr_takes}

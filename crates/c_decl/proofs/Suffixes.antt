@@ -1,11 +1,11 @@
 -- Each suffix is a turn of what is read.
-use Rattle.std.proofs.Common.{◌≡◌, ℕ, ◌+◌, ◌-◌, ◌<◌, ◌≤◌, zero, suc, List, Option, Some, None, Result, Err, refl, ap, arith, sym, ◌∙◌}
+use Rattle.std.proofs.Common.{◌≡◌, ℕ, ◌+◌, ◌-◌, ◌<◌, ◌≤◌, suc, List, Option, Some, None, refl, ap, arith, sym, ◌∙◌}
 use Rattle.c_type.specs.Names.{Name}
 use Rattle.c_type.specs.Tokens.{Token}
 use Rattle.c_tree.specs.Words.{open_square, open_round}
 use Rattle.c_tree.specs.TreeExpr.{Expr}
 use Rattle.c_tree.specs.TreeDecl.{Declr}
-use Rattle.c_expr.specs.Front.{Read, ◌>>=◌, eat}
+use Rattle.c_expr.specs.Front.{Read, eat}
 use Rattle.c_decl.specs.ReadDeclr.{array_by, function_by, suffix_by, suffixes}
 
 module _ (defs : List Name) (most : ℕ) (expr : ℕ → List Token → Read Expr) (l n : ℕ) where

@@ -9,4 +9,4 @@ pub mod Named
 pub mod Answers
 pub mod WordsOf
 pub mod HeadOf
-pub mod Found
+pub mod FoundAt

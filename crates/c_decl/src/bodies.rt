@@ -82,7 +82,12 @@ impl Reader<'_> {
     }
 
     /// An enumeration behind its opening brace.
-    fn enumeration(&self, line: u32, name: Option<Name>, at: usize) -> Result<(TagDef, usize), ParseErr>
+    fn enumeration(
+        &self,
+        line: u32,
+        name: Option<Name>,
+        at: usize,
+    ) -> Result<(TagDef, usize), ParseErr>
         ensures { Gives (found def_of self.now) result (s.enum_by (names self.now) most (expression (names self.now)) line name (rest self.now at)) }
     {
         let (ens, behind) = self.ens(at)?;

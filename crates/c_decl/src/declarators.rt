@@ -10,9 +10,7 @@ ghost use Rattle.c_decl.specs.Separated.{separated};
 ghost use Rattle.c_decl.specs.ReadDeclr as r;
 
 use crate::depth::{MAX_DEPTH, declr_exceeds};
-use crate::marks::{
-    CLOSE_ROUND, CLOSE_SQUARE, COMMA, OPEN_ROUND, OPEN_SQUARE, STAR,
-};
+use crate::marks::{CLOSE_ROUND, CLOSE_SQUARE, COMMA, OPEN_ROUND, OPEN_SQUARE, STAR};
 use crate::names::has_names;
 use crate::reader::Reader;
 use c_expr::ParseErr;

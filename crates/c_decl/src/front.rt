@@ -38,9 +38,12 @@ impl Reader<'_> {
         ensures within { IfSome result (λ k. k ≤ length (tokens_of self.now.tokens.now)) }
     {
         match self.token(at) {
-            Some(Token {
-                kind: Tok::Mark(m), ..
-            }) if *m == mark => Some(at + 1),
+            Some(
+                Token {
+                    kind: Tok::Mark(m),
+                    ..
+                },
+            ) if *m == mark => Some(at + 1),
             _ => None,
         }
     }
@@ -50,9 +53,12 @@ impl Reader<'_> {
         ensures { option_map (λ k. rest self.now k) result ≡ f.eat_word word (rest self.now at) }
     {
         match self.token(at) {
-            Some(Token {
-                kind: Tok::Word(w), ..
-            }) if *w == word => Some(at + 1),
+            Some(
+                Token {
+                    kind: Tok::Word(w),
+                    ..
+                },
+            ) if *w == word => Some(at + 1),
             _ => None,
         }
     }
@@ -90,10 +96,12 @@ impl Reader<'_> {
         ensures { option_map (λ x. (x.0.now, rest self.now x.1)) result ≡ f.any_name (rest self.now at) }
     {
         match self.token(at) {
-            Some(Token {
-                kind: Tok::Name(name),
-                ..
-            }) => Some((name, at + 1)),
+            Some(
+                Token {
+                    kind: Tok::Name(name),
+                    ..
+                },
+            ) => Some((name, at + 1)),
             _ => None,
         }
     }

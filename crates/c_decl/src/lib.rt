@@ -6,14 +6,14 @@
 
 ghost use Rattle.c_decl.specs.Laws.{IsHeadRead, IsLocalRead, IsWholeRead};
 
-mod initialisers;
-mod marks;
-mod names;
 mod bodies;
 mod declarations;
 mod declarators;
 mod depth;
 mod front;
+mod initialisers;
+mod marks;
+mod names;
 mod outside;
 mod places;
 mod reader;

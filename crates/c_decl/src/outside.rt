@@ -30,10 +30,12 @@ impl Reader<'_> {
         ensures { result ≡ e.is_item (rest self.now at) }
     {
         match self.token(at) {
-            Some(Token {
-                kind: Tok::Mark(mark),
-                ..
-            }) => *mark == EQUALS || *mark == COMMA || *mark == SEMICOLON,
+            Some(
+                Token {
+                    kind: Tok::Mark(mark),
+                    ..
+                },
+            ) => *mark == EQUALS || *mark == COMMA || *mark == SEMICOLON,
             _ => false,
         }
     }

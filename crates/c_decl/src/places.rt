@@ -8,7 +8,7 @@ ghost use Rattle.c_tree.specs.Reads.{IsDeclarationAt, IsHeadAt, IsLocalAt};
 ghost use Rattle.c_lex.specs.Shown.{tokens_of};
 ghost use Rattle.c_expr.specs.Answer.{IsNotTooDeep, OnNotC};
 ghost use Rattle.c_expr.specs.Typedefs.{names_of};
-ghost use Rattle.c_decl.specs.Found.{IsFoundAt, names_behind};
+ghost use Rattle.c_decl.specs.FoundAt.{IsFoundAt, names_behind};
 
 use crate::Head;
 use crate::names::declared_name;
@@ -19,12 +19,7 @@ use c_tree::{Declr, Ext, LocalDecl};
 use num_le::Name;
 use std::alloc::{AllocError, Global};
 
-fn outside(
-    alloc: Global,
-    t: &Tokens,
-    at: usize,
-    defs: &Typedefs,
-) -> Result<(Head, usize), ParseErr>
+fn outside(alloc: Global, t: &Tokens, at: usize, defs: &Typedefs) -> Result<(Head, usize), ParseErr>
     requires counted { length (tokens_of t.now) < 4294967295 }
     ensures spelled { IfOk result (λ x. IsFoundAt (names_of defs.now) (tokens_of t.now) at x.0 x.1) }
     ensures no_declaration { OnNotC result ((e : u.Ext) (k : ℕ) → IsDeclarationAt (names_of defs.now) (tokens_of t.now) at e k → ⊥) }

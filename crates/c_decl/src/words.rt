@@ -121,14 +121,18 @@ impl Reader<'_> {
         ensures { start_of result ≡ s.start_at (names self.now) (rest self.now at) }
     {
         match self.token(at) {
-            Some(Token {
-                kind: Tok::Name(name),
-                ..
-            }) if self.defs.has(name.as_slice()) => Start::Named(name),
-            Some(Token {
-                kind: Tok::Word(word),
-                ..
-            }) => word_start(*word),
+            Some(
+                Token {
+                    kind: Tok::Name(name),
+                    ..
+                },
+            ) if self.defs.has(name.as_slice()) => Start::Named(name),
+            Some(
+                Token {
+                    kind: Tok::Word(word),
+                    ..
+                },
+            ) => word_start(*word),
             _ => Start::Nothing,
         }
     }

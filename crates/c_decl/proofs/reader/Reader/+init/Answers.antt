@@ -1,4 +1,4 @@
-use Rattle.std.proofs.Common.{◌∙◌, ◌+◌, [], ◌∷◌, map, arith, sym}
+use Rattle.std.proofs.Common.{◌∙◌, ◌+◌, map, arith}
 use Rattle.std.proofs.lemmas.List.{map-append}
 use Rattle.std.proofs.lemmas.Result.{err_from_is_err_and}
 use Rattle.c_tree.specs.Reads.{most}
@@ -15,14 +15,14 @@ members-returns-in_err-member t c =
     let defs = names c.args.self.now in
     failed defs most (expression defs) (init defs most (expression defs) c.args.nested) _ _ _ _ (c.left-turn-end.result + 1) c.loop-turn._turn (map init_of c.loop-turn.members.items) _ _ p.1 p.2 c.loop-turn-test.true
     (c.loop-turn.invariant ∙ (begins defs most (expression defs) (init defs most (expression defs) c.args.nested) (rest c.args.self.now c.args.at) _ c.in_ok-first.first _ (c.left-turn-end.result + 1) (rw c.new-members.ensures.items at c.in_ok-push.ensures.items)
-        (omega (arith, c.left-turn-end.ensures.count)) c.in_ok-first.ensures)) c.in_err-member.ensures
+    (omega (arith, c.left-turn-end.ensures.count)) c.in_ok-first.ensures)) c.in_err-member.ensures
 
 pub members-returns-in_default : goal.members-returns-in_default
 members-returns-in_default t c =
     let defs = names c.args.self.now in
     let last = ends defs most (expression defs) (init defs most (expression defs) c.args.nested) (c.left-turn-end.result + 1) c.loop-turn._turn (map init_of c.loop-turn.members.items) _ _ _ c.loop-turn-test.true
     (c.loop-turn.invariant ∙ (begins defs most (expression defs) (init defs most (expression defs) c.args.nested) (rest c.args.self.now c.args.at) _ c.in_ok-first.first _ (c.left-turn-end.result + 1) (rw c.new-members.ensures.items at c.in_ok-push.ensures.items)
-        (omega (arith, c.left-turn-end.ensures.count)) c.in_ok-first.ensures)) (rw c.in_default.is at c.in_ok-member.ensures) in
+    (omega (arith, c.left-turn-end.ensures.count)) c.in_ok-first.ensures)) (rw c.in_default.is at c.in_ok-member.ensures) in
     rw (listed c.loop-turn.members.items) at last
 
 pub members-loop-turn-preserved : goal.members-loop-turn-preserved
@@ -38,4 +38,4 @@ members-returns t c =
     rw (c.refusal.ensures)
     (runs_out defs most (expression defs) (init defs most (expression defs) c.args.nested) (c.left-turn-end.result + 1) c.loop-turn._turn (map init_of c.loop-turn.members.items) _ _ c.loop-turn-test.false
     (c.loop-turn.invariant ∙ (begins defs most (expression defs) (init defs most (expression defs) c.args.nested) (rest c.args.self.now c.args.at) _ c.in_ok-first.first _ (c.left-turn-end.result + 1) (rw c.new-members.ensures.items at c.in_ok-push.ensures.items)
-        (omega (arith, c.left-turn-end.ensures.count)) c.in_ok-first.ensures)))
+    (omega (arith, c.left-turn-end.ensures.count)) c.in_ok-first.ensures)))
