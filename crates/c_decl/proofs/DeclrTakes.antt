@@ -14,7 +14,7 @@ use Rattle.c_tree.specs.Reads.{Spells}
 use Rattle.c_expr.specs.Front.{Read, ◌>>=◌, eat, line_at, name_at, grown}
 use Rattle.c_decl.specs.Separated.{separated}
 use Rattle.c_decl.specs.ReadDeclr as r
-use Rattle.c_decl.specs.ReadDecl.{is_name}
+use Rattle.c_decl.specs.Named.{is_name}
 use Rattle.c_decl.proofs.DeclrAgain.{IsLoose, declr_line_at}
 use Rattle.c_expr.proofs.Taken.{some_is, bind_some, chosen, eat_takes, name_takes}
 use Rattle.c_decl.proofs.SeparatedTakes.{grown_takes, separated_takes}
@@ -112,10 +112,10 @@ module _ (defs : List Name) (most : ℕ) (positive : 1 ≤ most) (expr : ℕ →
       → eat open_square ts ≡ o → eat open_round ts ≡ u → r.suffix_by defs most expr more (line_at start) e ts o u ≡ Some x → Longer start x
   suffix_takes start more goes e ts (Some after) u x s at at1 is =
       let f = eat_takes open_square ts after at in
-      let b = bind_some (r.dimension_by defs most expr after (eat close_square after)) (λ n. grown declr_depth most (t.array (line_at start) e n.0) n.1 >>= λ y. more y.0 y.1) x is in
+      let c = bind_some (r.array_by defs most expr (line_at start) e after) (λ y. more y.0 y.1) x is in
+      let b = bind_some (r.dimension_by defs most expr after (eat close_square after)) (λ n. grown declr_depth most (t.array (line_at start) e n.0) n.1) c.0 c.1 in
       let n = dimension_takes after (eat close_square after) b.0 refl b.1 in
-      let c = bind_some (grown declr_depth most (t.array (line_at start) e b.0.0) b.0.1) (λ y. more y.0 y.1) x b.2 in
-      let g = grown_takes declr_depth most (t.array (line_at start) e b.0.0) b.0.1 c.0 c.1 in
+      let g = grown_takes declr_depth most (t.array (line_at start) e b.0.0) b.0.1 c.0 b.2 in
       let longer : Direct defs (t.array (line_at start) e b.0.0) start b.0.1 = record {
         written = d.array s.0.written f.0 n.0 n.3;
         direct = refl;
@@ -126,10 +126,10 @@ module _ (defs : List Name) (most : ℕ) (positive : 1 ≤ most) (expr : ℕ →
       goes (t.array (line_at start) e b.0.0) b.0.1 x (longer, g.1) (ap (λ y. more y.0 y.1) g.0 ∙ c.2)
   suffix_takes start more goes e ts None (Some after) x s at at1 is =
       let f = eat_takes open_round ts after at1 in
-      let b = bind_some (r.params defs most expr e after) (λ n. grown declr_depth most (t.function (line_at start) e n.0) n.1 >>= λ y. more y.0 y.1) x is in
+      let c = bind_some (r.function_by defs most expr (line_at start) e after) (λ y. more y.0 y.1) x is in
+      let b = bind_some (r.params defs most expr e after) (λ n. grown declr_depth most (t.function (line_at start) e n.0) n.1) c.0 c.1 in
       let n = params_take e after b.0 b.1 in
-      let c = bind_some (grown declr_depth most (t.function (line_at start) e b.0.0) b.0.1) (λ y. more y.0 y.1) x b.2 in
-      let g = grown_takes declr_depth most (t.function (line_at start) e b.0.0) b.0.1 c.0 c.1 in
+      let g = grown_takes declr_depth most (t.function (line_at start) e b.0.0) b.0.1 c.0 b.2 in
       let bare : is_bare s.0.written ≡ is_name e = bare_is s.0.written ∙ ap is_name s.0.plain_is in
       let longer : Direct defs (t.function (line_at start) e b.0.0) start b.0.1 = record {
         written = d.function s.0.written f.0 n.0 n.3;

@@ -1,5 +1,5 @@
 -- Expressions: what is spelled up to a mark that ends it is read, and what is read is spelled so.
-use Rattle.std.proofs.Common.{◌≡◌, ℕ, ◌+◌, ◌≤◌, List, [], ◌∷◌, length, Option, Some, None, Bool, true, false, nat_eq, nat_lt, ◌||◌, ◌&&◌, refl, arith, sym, ◌⊎◌, inl, inr, true≢false}
+use Rattle.std.proofs.Common.{◌≡◌, ℕ, ◌+◌, ◌≤◌, List, [], ◌∷◌, length, Option, Some, None, Bool, true, false, nat_eq, nat_lt, ◌||◌, ◌&&◌, refl, arith, sym, ◌⊎◌, inl, inr, true≢false, ap, ◌∙◌}
 use Rattle.std.proofs.lemmas.Bool.{eqb-true, lt-ltb}
 use Rattle.c_type.specs.Names.{Name, pick}
 use Rattle.c_type.specs.Tokens.{Tok, Token}
@@ -12,7 +12,9 @@ use Rattle.c_tree.specs.Reads.{most, may_follow, Spells}
 use Rattle.c_expr.specs.Ends.{Ends, nest, nests, nest_others}
 use Rattle.c_expr.proofs.Fronts.{name_longer}
 use Rattle.c_expr.proofs.Joined.{is_read, is_spelled}
-use Rattle.c_decl.specs.Expression.{expression}
+use Rattle.c_expr.proofs.Taken.{some_is, bind_some, chosen}
+use Rattle.c_expr.specs.Reading as r
+use Rattle.c_decl.specs.Expression.{expression, ended}
 
 mutual
   nest_short : (e : Written) (ts : List Token) → nest e + length ts ≤ length (w.spell e ts)
@@ -170,7 +172,22 @@ ends_before l [] is = absurd (true≢false (sym is))
 ends_before l (y ∷ ts) is = ends_by l y.line y.kind ts is
 
 pub expr_again : (defs : List Name) (l : ℕ) (e : Written) (after : List Token) → 1 ≤ l → l ≤ 3 → IsAtLevel defs l e → expr_depth (w.plain e) ≤ most → may_follow l after ≡ true → expression defs l (w.spell e after) ≡ Some (w.plain e, after)
-expr_again defs l e after low high ok depth follows = is_read defs most (length (w.spell e after)) l e after ok (omega (arith, nest_short e after)) depth (ends_before l after follows)
+unfolding expression
+expr_again defs l e after low high ok depth follows =
+    rw (is_read defs most (length (w.spell e after)) l e after ok (omega (arith, nest_short e after)) depth (ends_before l after follows), follows) refl
+
+-- what is read is what an expression's reader gives, before a mark that may end it
+expr_read : (defs : List Name) (l : ℕ) (ts : List Token) (x : Expr × List Token) → expression defs l ts ≡ Some x → (r.expr defs most (length ts) l ts ≡ Some x) × (may_follow l x.1 ≡ true)
+unfolding expression
+expr_read defs l ts x is =
+    let b = bind_some (r.expr defs most (length ts) l ts) (ended l) x is in
+    elim (chosen (may_follow l b.0.1) (Some b.0) None (Some x) b.2) [
+      | inl h ↦ let same : b.0 ≡ x = some_is h.1 in (b.1 ∙ h.1, ap (λ y. may_follow l y.1) (sym same) ∙ h.0)
+      | inr h ↦ cc (h.1)
+    ]
 
 pub expr_takes : (defs : List Name) (l : ℕ) (ts : List Token) (x : Expr × List Token) → 1 ≤ l → l ≤ 3 → expression defs l ts ≡ Some x → Spells defs l x.0 ts x.1 × (expr_depth x.0 ≤ most)
-expr_takes defs l ts x low high is = is_spelled defs most (length ts) l ts x (omega arith) (omega arith) is
+expr_takes defs l ts x low high is = is_spelled defs most (length ts) l ts x (omega arith) (omega arith) (expr_read defs l ts x is).0
+
+pub expr_ends : (defs : List Name) (l : ℕ) (ts : List Token) (x : Expr × List Token) → expression defs l ts ≡ Some x → may_follow l x.1 ≡ true
+expr_ends defs l ts x is = (expr_read defs l ts x is).1

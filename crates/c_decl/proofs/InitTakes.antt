@@ -65,11 +65,13 @@ module _ (defs : List Name) (most : ℕ) (positive : 1 ≤ most) (expr : ℕ →
     init_by_takes : (ts : List Token) (o : Option (List Token)) (x : Init × List Token) → eat open_brace ts ≡ o → i.init_by defs most expr inner ts o ≡ Some x → Taken ts x
     init_by_takes ts (Some after) x at is =
         let f = eat_takes open_brace ts after at in
-        let b = bind_some (inner after) (λ y. i.inits defs most expr inner (suc (length y.1)) y.1 >>= λ z. grown init_depth most (t.group (line_at ts) (t.more_inits y.0 z.0)) z.1) x is in
+        let m = bind_some (i.members defs most expr inner after) (λ z. grown init_depth most (t.group (line_at ts) z.0) z.1) x is in
+        let b = bind_some (inner after) (λ y. i.inits defs most expr inner (suc (length y.1)) y.1 >>= λ z. Some (t.more_inits y.0 z.0, z.1)) m.0 m.1 in
         let one = inner_takes after b.0 b.1 in
-        let c = bind_some (i.inits defs most expr inner (suc (length b.0.1)) b.0.1) (λ z. grown init_depth most (t.group (line_at ts) (t.more_inits b.0.0 z.0)) z.1) x b.2 in
+        let c = bind_some (i.inits defs most expr inner (suc (length b.0.1)) b.0.1) (λ z. Some (t.more_inits b.0.0 z.0, z.1)) m.0 b.2 in
         let rest = inits_take (suc (length b.0.1)) b.0.1 c.0 c.1 in
-        let g = grown_takes init_depth most (t.group (line_at ts) (t.more_inits b.0.0 c.0.0)) c.0.1 x c.2 in
+        let group : Inits × List Token → Read Init = λ z. grown init_depth most (t.group (line_at ts) z.0) z.1 in
+        let g = grown_takes init_depth most (t.group (line_at ts) (t.more_inits b.0.0 c.0.0)) c.0.1 x (ap group (some_is c.2) ∙ m.2) in
         let found : Taken ts (t.group (line_at ts) (t.more_inits b.0.0 c.0.0), c.0.1) = (
           d.group f.0 one.0 rest.0 rest.3 rest.4,
           (one.1, rest.1),

@@ -14,3 +14,15 @@ pub mod DeclTakes
 pub mod OutsideTakes
 pub mod Expressions
 pub mod Joined
+pub mod Standing
+pub mod Behind
+pub mod Depths
+pub mod Loops
+pub mod Members
+pub mod Groups
+pub mod Worded
+pub mod MemTurns
+pub mod ParTurns
+pub mod Standings
+pub mod Spelled
+pub mod Suffixes

@@ -22,6 +22,7 @@ use Rattle.c_tree.specs.WrittenUnit as u
 use Rattle.c_tree.specs.Reads.{may_follow, begins_block, is_declaration}
 use Rattle.c_expr.specs.Front.{Read, eat, line_at}
 use Rattle.c_decl.specs.ReadDecl as e
+use Rattle.c_decl.specs.Named as named
 use Rattle.c_expr.proofs.Fronts.{grown_again}
 use Rattle.c_decl.proofs.DeclrAgain.{IsLoose, NoSuffix, declr_loose, declr_line_at, declr_longer, loose_declr_again}
 use Rattle.c_decl.proofs.InitAgain.{item_longer}
@@ -80,7 +81,7 @@ bare_direct (d.array q l n m) is = absurd (true≢false (sym is))
 bare_direct (d.function q l xs m) is = absurd (true≢false (sym is))
 bare_direct (d.bracket l q m) is = refl
 
-bare_name : (q : WrittenDeclr) → is_bare q ≡ true → e.is_name (plain_declr q) ≡ true
+bare_name : (q : WrittenDeclr) → is_bare q ≡ true → named.is_name (plain_declr q) ≡ true
 bare_name (d.pointer l q) is = absurd (true≢false (sym is))
 bare_name (d.name l y) is = refl
 bare_name (d.array q l n m) is = absurd (true≢false (sym is))
@@ -103,12 +104,12 @@ head_loose defs (d.array q l n m) ok = (ok.0, head_loose defs q ok.1, ok.2)
 head_loose defs (d.function q l xs m) ok = suffix_loose defs q l xs m (is_bare q) refl (head_loose defs q) ok
 head_loose defs (d.bracket l q m) ok = head_loose defs q ok
 
-suffix_is : (defs : List Name) (q : WrittenDeclr) (xs : Option (Separated Named)) (b : Bool) → is_bare q ≡ b → (IsHead defs q → e.is_head (plain_declr q) ≡ true)
-    → Chosen b (IsDeclr defs q × IfThere (AreAll (IsParameter defs)) xs) ((is_pointer q ≡ false) × IsHead defs q × (xs ≡ None)) → (e.is_name (plain_declr q) || e.is_head (plain_declr q)) ≡ true
+suffix_is : (defs : List Name) (q : WrittenDeclr) (xs : Option (Separated Named)) (b : Bool) → is_bare q ≡ b → (IsHead defs q → named.declares_function (plain_declr q) ≡ true)
+    → Chosen b (IsDeclr defs q × IfThere (AreAll (IsParameter defs)) xs) ((is_pointer q ≡ false) × IsHead defs q × (xs ≡ None)) → (named.is_name (plain_declr q) || named.declares_function (plain_declr q)) ≡ true
 suffix_is defs q xs true is inner ok = rw (bare_name q is) refl
-suffix_is defs q xs false is inner ok = or_right (e.is_name (plain_declr q)) (e.is_head (plain_declr q)) (inner ok.1)
+suffix_is defs q xs false is inner ok = or_right (named.is_name (plain_declr q)) (named.declares_function (plain_declr q)) (inner ok.1)
 
-head_is : (defs : List Name) (q : WrittenDeclr) → IsHead defs q → e.is_head (plain_declr q) ≡ true
+head_is : (defs : List Name) (q : WrittenDeclr) → IsHead defs q → named.declares_function (plain_declr q) ≡ true
 head_is defs (d.pointer l q) ok = head_is defs q ok
 head_is defs (d.name l y) ok = absurd ok
 head_is defs (d.array q l n m) ok = head_is defs q ok.1

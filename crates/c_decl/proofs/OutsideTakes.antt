@@ -27,6 +27,7 @@ use Rattle.c_decl.specs.ReadInit as i
 use Rattle.c_decl.specs.ReadSpecs.{Found, no_storage, types_found}
 use Rattle.c_decl.specs.ReadSpecs as s
 use Rattle.c_decl.specs.ReadDecl as e
+use Rattle.c_decl.specs.Named as named
 use Rattle.c_decl.proofs.DeclrAgain.{IsLoose, declr_line_at}
 use Rattle.c_decl.proofs.SpecsAgain.{found}
 use Rattle.c_decl.proofs.BodiesAgain.{bodies_count, types_are_found, specs_line_at}
@@ -175,17 +176,17 @@ bare_names (d.function q l xs m) is = absurd (true≢false (sym is))
 bare_names (d.bracket l q m) is = bare_names q is
 
 suffix_head : (defs : List Name) (q : WrittenDeclr) (xs : Option (Separated Named)) (b : Bool) → is_bare q ≡ b → is_pointer q ≡ false → IsLoose defs q → Chosen b (IfThere (AreAll (IsParameter defs)) xs) (xs ≡ None)
-    → (e.is_head (plain_declr q) ≡ true → IsHead defs q) → (b || e.is_head (plain_declr q)) ≡ true
+    → (named.declares_function (plain_declr q) ≡ true → IsHead defs q) → (b || named.declares_function (plain_declr q)) ≡ true
     → Chosen b (IsDeclr defs q × IfThere (AreAll (IsParameter defs)) xs) ((is_pointer q ≡ false) × IsHead defs q × (xs ≡ None))
 suffix_head defs q xs true bare direct ok names inner is = (loose_plain defs q ok (bare_names q bare), names)
 suffix_head defs q xs false bare direct ok names inner is = (direct, inner is, names)
 
-loose_head : (defs : List Name) (q : WrittenDeclr) → IsLoose defs q → e.is_head (plain_declr q) ≡ true → IsHead defs q
+loose_head : (defs : List Name) (q : WrittenDeclr) → IsLoose defs q → named.declares_function (plain_declr q) ≡ true → IsHead defs q
 loose_head defs (d.pointer l q) ok is = loose_head defs q ok is
 loose_head defs (d.name l y) ok is = absurd (true≢false (sym is))
 loose_head defs (d.array q l j m) ok is = (ok.0, loose_head defs q ok.1 is, ok.2)
 loose_head defs (d.function q l xs m) ok is =
-    suffix_head defs q xs (is_bare q) refl ok.0 ok.1 ok.2 (loose_head defs q ok.1) (ap (λ b. b || e.is_head (plain_declr q)) (bare_is q) ∙ is)
+    suffix_head defs q xs (is_bare q) refl ok.0 ok.1 ok.2 (loose_head defs q ok.1) (ap (λ b. b || named.declares_function (plain_declr q)) (bare_is q) ∙ is)
 loose_head defs (d.bracket l q m) ok is = loose_head defs q ok is
 
 head_line_is : (ps : Parts) (q : WrittenDeclr) (ts : List Token) → line_at (spell_specs ps (spell_declr q ts)) ≡ head_line ps q
@@ -285,9 +286,9 @@ module _ (defs : List Name) (most : ℕ) (positive : 1 ≤ most) (expr : ℕ →
       rw (← k.0) read
 
   func_takes : (ts : List Token) (f : Found × List Token) (x : Declr × List Token) (o : Option (Option FileSpecs)) (y : FuncHead × List Token) → WordsTaken defs ts f → r.loose_declr defs most expr f.1 ≡ Some x
-      → pick (e.is_head x.0) (e.head_specs f.0) None ≡ o → e.head_by defs most expr (line_at ts) o x.0 x.1 ≡ Some y → HeadTaken defs most ts y.0 y.1
+      → pick (named.declares_function x.0) (e.head_specs f.0) None ≡ o → e.head_by defs most expr (line_at ts) o x.0 x.1 ≡ Some y → HeadTaken defs most ts y.0 y.1
   func_takes ts f x None y ws at found_is is = cc
-  func_takes ts f x (Some z) y ws at found_is is = elim (chosen (e.is_head x.0) (e.head_specs f.0) None (Some z) found_is) [
+  func_takes ts f x (Some z) y ws at found_is is = elim (chosen (named.declares_function x.0) (e.head_specs f.0) None (Some z) found_is) [
     | inl h ↦
         let q = (loose_declr_takes defs most positive expr expr_takes f.1 x at).0 in
         let one = head_specs_are defs ws.0 f.0 z ws.1 ws.2 h.1 in
@@ -299,7 +300,7 @@ module _ (defs : List Name) (most : ℕ) (positive : 1 ≤ most) (expr : ℕ →
         let line : head_line ws.0 q.written ≡ line_at ts = sym (head_line_is ws.0 q.written x.1) ∙ ap line_at (sym tokens) in
         let read : HeadTaken defs most ts (made (line_at ts) z x.0 b.0.0) b.0.1 = record {
           written = record { parts = ws.0; declr = q.written; params = qs.written };
-          levelled = (one.0, loose_head defs q.written q.loose (ap e.is_head q.plain_is ∙ h.0), qs.levelled);
+          levelled = (one.0, loose_head defs q.written q.loose (ap named.declares_function q.plain_is ∙ h.0), qs.levelled);
           plain_is = ap (λ j. made j (specs_or_none ws.0) (plain_declr q.written) (map plain_par qs.written)) line ∙ ap (λ c. made (line_at ts) c (plain_declr q.written) (map plain_par qs.written)) one.1
               ∙ ap (λ v. made (line_at ts) z v (map plain_par qs.written)) q.plain_is ∙ ap (made (line_at ts) z x.0) qs.plain_is;
           tokens = tokens ∙ ap (λ v. spell_specs ws.0 (spell_declr q.written v)) qs.tokens;
@@ -315,7 +316,7 @@ module _ (defs : List Name) (most : ℕ) (positive : 1 ≤ most) (expr : ℕ →
       → e.declared_by defs most expr (line_at ts) f.0 f.1 x.0 x.1 b ≡ Some y → OutsideTaken defs most ts y.0 y.1
   declared_takes ts f x true y ws at is = whole_takes ts (e.object_by defs most expr (line_at ts) (e.file_specs f.0) f.1) y (λ z at1. object_takes ts f (e.file_specs f.0) z ws refl at1) is
   declared_takes ts f x false y ws at is =
-      head_takes ts (e.head_by defs most expr (line_at ts) (pick (e.is_head x.0) (e.head_specs f.0) None) x.0 x.1) y (λ z at1. func_takes ts f x (pick (e.is_head x.0) (e.head_specs f.0) None) z ws at refl at1) is
+      head_takes ts (e.head_by defs most expr (line_at ts) (pick (named.declares_function x.0) (e.head_specs f.0) None) x.0 x.1) y (λ z at1. func_takes ts f x (pick (named.declares_function x.0) (e.head_specs f.0) None) z ws at refl at1) is
 
   typed_takes : (ts : List Token) (f : Found × List Token) (b : Bool) (y : e.Outside × List Token) → WordsTaken defs ts f → e.typed_by defs most expr (line_at ts) f.0 f.1 b ≡ Some y → OutsideTaken defs most ts y.0 y.1
   typed_takes ts f false y ws is = whole_takes ts (e.typedef_by defs most expr (line_at ts) (e.typedef_types f.0) f.1) y (λ z at1. typedef_takes ts f (e.typedef_types f.0) z ws refl at1) is

@@ -17,7 +17,7 @@ use Rattle.c_tree.specs.WrittenSpecs.{Parts, WrittenDef, WrittenMem, WrittenMems
 use Rattle.c_tree.specs.WrittenSpecs as p
 use Rattle.c_tree.specs.WrittenDecl.{LocalPart, local_storages, local_types, AreLocalParts, spell_local_parts}
 use Rattle.c_tree.specs.WrittenDecl as l
-use Rattle.c_expr.specs.Front.{Read, eat, line_at}
+use Rattle.c_expr.specs.Front.{Read, ◌>>=◌, eat, line_at}
 use Rattle.c_decl.specs.ReadSpecs.{Found, nothing, Start, word_start, start_at, words, no_body, types_found, no_storage, only_types, en, en_by, mem, mem_by, mems, body_by, file_words}
 use Rattle.c_decl.specs.ReadSpecs as s
 use Rattle.c_expr.proofs.Fronts.{expr_longer, part_longer}
@@ -173,7 +173,7 @@ inside (p.enum l1 y m es n) after = spell_separated spell_en es (mark n close_br
 module _ (defs : List Name) (most n : ℕ) (body : TagKind → ℕ → Option Name → List Token → Read TagDef)
     (body_again : (e : WrittenDef) (after : List Token) → IsDef defs e → def_nest e ≤ n → def_depth (plain_def e) ≤ most → body (kind_of e) (def_line e) (name_of e) (inside e after) ≡ Some (plain_def e, after)) where
   body_step : (e : WrittenDef) (more : List Token → Read Found) (rest : List Token) (f : Found) (after : List Token) → IsDef defs e → def_nest e ≤ n → def_depth (plain_def e) ≤ most → more rest ≡ Some (f, after)
-      → s.words_by defs body more (def_line e) (s.behind (spell_def e rest)) (spell_def e rest) (start_at defs (spell_def e rest)) ≡ Some (record f { bodies = plain_def e ∷ f.bodies }, after)
+      → (s.word_by defs body (def_line e) (s.behind (spell_def e rest)) (spell_def e rest) (start_at defs (spell_def e rest)) >>= λ v. s.words_by defs body more v.0 v.1) ≡ Some (record f { bodies = plain_def e ∷ f.bodies }, after)
   body_step (p.struct l1 None m ms n1) more rest f after ok small low is = rw (body_again (p.struct l1 None m ms n1) rest ok small low, is) refl
   body_step (p.struct l1 (Some y) m ms n1) more rest f after ok small low is = rw (body_again (p.struct l1 (Some y) m ms n1) rest ok small low, is) refl
   body_step (p.enum l1 None m es n1) more rest f after ok small low is = rw (body_again (p.enum l1 None m es n1) rest ok small low, is) refl

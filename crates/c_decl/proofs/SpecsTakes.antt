@@ -11,12 +11,12 @@ use Rattle.c_tree.specs.TreeExpr.{Expr, expr_depth}
 use Rattle.c_tree.specs.TreeExpr as x
 use Rattle.c_tree.specs.TreeDecl.{Types, TagDef, Mem, Mems, En, def_depth, mem_depth, en_depth}
 use Rattle.c_tree.specs.TreeDecl as t
-use Rattle.c_tree.specs.WrittenType.{TypePart, word_part, tag_part, name_part, is_typedef, has_spelling}
+use Rattle.c_tree.specs.WrittenType.{word_part, tag_part, name_part, is_typedef, has_spelling}
 use Rattle.c_tree.specs.WrittenDeclr.{Named, named, spell_named, plain_if, spell_if}
-use Rattle.c_tree.specs.WrittenSpecs.{Parts, WrittenDef, WrittenMem, WrittenMems, WrittenEn, Value, storages, typedefs, type_parts, bodies, first_line, plain_value, plain_en, plain_def, plain_mems, plain_mem, plain_types, is_type, IsValue, IsEn, AreParts, IsDef, AreMems, IsMem, spell_value, spell_en, spell_specs, spell_def, spell_mems, spell_mem}
+use Rattle.c_tree.specs.WrittenSpecs.{Part, Parts, WrittenDef, WrittenMem, WrittenMems, WrittenEn, Value, storages, typedefs, type_parts, bodies, first_line, plain_value, plain_en, plain_def, plain_mems, plain_mem, plain_types, is_type, IsValue, IsEn, AreParts, IsDef, AreMems, IsMem, spell_value, spell_en, spell_specs, spell_def, spell_mems, spell_mem}
 use Rattle.c_tree.specs.WrittenSpecs as p
-use Rattle.c_expr.specs.Front.{Read, ◌>>=◌, eat, line_at, any_name}
-use Rattle.c_decl.specs.ReadSpecs.{Found, nothing, Start, word_start, start_of, start_at, behind, words, no_body, no_storage, only_types}
+use Rattle.c_expr.specs.Front.{Read, eat, line_at, any_name}
+use Rattle.c_decl.specs.ReadSpecs.{Found, nothing, Start, Word, with_word, word_start, start_of, start_at, behind, words, no_body, no_storage, only_types}
 use Rattle.c_decl.specs.ReadSpecs as s
 use Rattle.c_decl.proofs.SpecsAgain.{found}
 use Rattle.c_decl.proofs.BodiesAgain.{bodies_count, types_are_found}
@@ -78,21 +78,19 @@ start_taken defs (y ∷ ts) = tok_taken defs y ts y.kind refl
 
 -- ---- words
 
-abbrev with_storage : Storage → Found → Found
-with_storage c f = record f { storages = c ∷ f.storages }
-
-abbrev with_typedef : Found → Found
-with_typedef f = record f { typedefs = suc f.typedefs }
-
-abbrev with_part : TypePart → Found → Found
-with_part q f = record f { parts = q ∷ f.parts }
-
-abbrev with_tag : TagDef → Found → Found
-with_tag e f = record f { bodies = e ∷ f.bodies }
-
 -- The tokens up to `after` spell the words.
 abbrev pub WordsTaken : List Name → List Token → Found × List Token → Type 0
 WordsTaken defs ts y = (ps : Parts) × AreParts defs ps × (found ps ≡ y.0) × (ts ≡ spell_specs ps y.1)
+
+-- a word that is taken is a part that spells it, and nothing is taken where none is
+abbrev pub PartTaken : List Name → List Token → Option Word → List Token → Type 0
+PartTaken defs ts None after = ts ≡ after
+PartTaken defs ts (Some v) after =
+    (q : Part) × ((ps : Parts) → AreParts defs ps → AreParts defs (p.more_parts q ps)) × ((ps : Parts) → found (p.more_parts q ps) ≡ with_word v (found ps))
+    × ((ps : Parts) (us : List Token) → after ≡ spell_specs ps us → ts ≡ spell_specs (p.more_parts q ps) us)
+
+abbrev pub WordTaken : List Name → List Token → Option Word × List Token → Type 0
+WordTaken defs ts y = PartTaken defs ts y.0 y.1
 
 -- a body behind its brace, for each name and each line of the brace
 abbrev pub BodyTaken : List Name → TagKind → ℕ → Option Name → List Token → TagDef × List Token → Type 0
@@ -102,84 +100,81 @@ BodyTaken defs kind l n ts y =
 
 module _ (defs : List Name) (body : TagKind → ℕ → Option Name → List Token → Read TagDef)
     (body_takes : (kind : TagKind) (l : ℕ) (n : Option Name) (ts : List Token) (y : TagDef × List Token) → body kind l n ts ≡ Some y → BodyTaken defs kind l n ts y) where
-  module _ (more : List Token → Read Found) (more_takes : (ts : List Token) (y : Found × List Token) → more ts ≡ Some y → WordsTaken defs ts y) where
-    body_step : (kind : TagKind) (l : ℕ) (z : Option Named) (m : ℕ) (ts : List Token) (y : Found × List Token) → s.with_body defs body more kind l (plain_if named z) ts ≡ Some y
-        → WordsTaken defs (word l (tag_word kind) ∷ spell_if spell_named z (mark m open_brace ∷ ts)) y
-    body_step kind l z m ts y is =
-        let b = bind_some (body kind l (plain_if named z) ts) (λ e. more e.1 >>= λ f. Some (record f.0 { bodies = e.0 ∷ f.0.bodies }, f.1)) y is in
-        let e = (body_takes kind l (plain_if named z) ts b.0 b.1).1 z m refl in
-        let c = bind_some (more b.0.1) (λ f. Some (record f.0 { bodies = b.0.0 ∷ f.0.bodies }, f.1)) y b.2 in
-        let rest = more_takes b.0.1 c.0 c.1 in
-        let one : WrittenDef = (body_takes kind l (plain_if named z) ts b.0 b.1).0 z m in
-        let read : WordsTaken defs (word l (tag_word kind) ∷ spell_if spell_named z (mark m open_brace ∷ ts)) (with_tag b.0.0 c.0.0, c.0.1) = (
-          p.more_parts (p.tagged one) rest.0,
-          (e.0, rest.1),
-          ap (λ v. with_tag v (found rest.0)) e.1 ∙ ap (with_tag b.0.0) rest.2,
-          e.2 ∙ ap (spell_def one) rest.3,
-        ) in
-        rw (← some_is c.2) read
+  body_step : (kind : TagKind) (l : ℕ) (z : Option Named) (m : ℕ) (ts : List Token) (y : Option Word × List Token) → s.word_body defs body kind l (plain_if named z) ts ≡ Some y
+      → WordTaken defs (word l (tag_word kind) ∷ spell_if spell_named z (mark m open_brace ∷ ts)) y
+  body_step kind l z m ts y is =
+      let b = bind_some (body kind l (plain_if named z) ts) (λ e. Some (Some (s.body_word e.0), e.1)) y is in
+      let e = (body_takes kind l (plain_if named z) ts b.0 b.1).1 z m refl in
+      let one : WrittenDef = (body_takes kind l (plain_if named z) ts b.0 b.1).0 z m in
+      let read : WordTaken defs (word l (tag_word kind) ∷ spell_if spell_named z (mark m open_brace ∷ ts)) (Some (s.body_word b.0.0), b.0.1) = (
+        p.tagged one,
+        λ ps ok. (e.0, ok),
+        λ ps. ap (λ v. with_word (s.body_word v) (found ps)) e.1,
+        λ ps us same. e.2 ∙ ap (spell_def one) same,
+      ) in
+      rw (← some_is b.2) read
 
-    tag_takes : (kind : TagKind) (l m : ℕ) (n : Name) (ts : List Token) (o : Option (List Token)) (y : Found × List Token) → has_spelling kind ≡ true → eat open_brace ts ≡ o → s.tag_by defs body more kind l m n ts o ≡ Some y
-        → WordsTaken defs (word l (tag_word kind) ∷ tok m (k.name n) ∷ ts) y
-    tag_takes kind l m n ts (Some after) y ok at is =
-        let f = eat_takes open_brace ts after at in
-        rw f.2 (body_step kind l (Some (record { line = m; name = n })) f.0 after y is)
-    tag_takes kind l m n ts None y ok at is =
-        let c = bind_some (more ts) (λ f. Some (record f.0 { parts = tag_part l kind m n ∷ f.0.parts }, f.1)) y is in
-        let rest = more_takes ts c.0 c.1 in
-        let read : WordsTaken defs (word l (tag_word kind) ∷ tok m (k.name n) ∷ ts) (with_part (tag_part l kind m n) c.0.0, c.0.1) = (
-          p.more_parts (p.typed (tag_part l kind m n)) rest.0,
-          (ok, rest.1),
-          ap (with_part (tag_part l kind m n)) rest.2,
-          ap (λ v. word l (tag_word kind) ∷ tok m (k.name n) ∷ v) rest.3,
-        ) in
-        rw (← some_is c.2) read
+  tag_takes : (kind : TagKind) (l m : ℕ) (n : Name) (ts : List Token) (o : Option (List Token)) (y : Option Word × List Token) → has_spelling kind ≡ true → eat open_brace ts ≡ o → s.tag_by defs body kind l m n ts o ≡ Some y
+      → WordTaken defs (word l (tag_word kind) ∷ tok m (k.name n) ∷ ts) y
+  tag_takes kind l m n ts (Some after) y ok at is =
+      let f = eat_takes open_brace ts after at in
+      rw f.2 (body_step kind l (Some (record { line = m; name = n })) f.0 after y is)
+  tag_takes kind l m n ts None y ok at is =
+      let read : WordTaken defs (word l (tag_word kind) ∷ tok m (k.name n) ∷ ts) (Some (s.type_part (tag_part l kind m n)), ts) =
+      (p.typed (tag_part l kind m n), λ ps oks. (ok, oks), λ ps. refl, λ ps us same. ap (λ v. word l (tag_word kind) ∷ tok m (k.name n) ∷ v) same) in
+      rw (← some_is is) read
 
-    tagged_takes : (kind : TagKind) (l : ℕ) (ts : List Token) (o : Read Name) (y : Found × List Token) → has_spelling kind ≡ true → any_name ts ≡ o → s.tagged_by defs body more kind l ts o ≡ Some y
-        → WordsTaken defs (word l (tag_word kind) ∷ ts) y
-    tagged_takes kind l ts (Some n) y ok at is =
-        let f = any_takes ts n at in
-        let read = tag_takes kind l (line_at ts) n.0 n.1 (eat open_brace n.1) y ok refl is in
-        rw (f.2 ∙ ap (λ j. tok j (k.name n.0) ∷ n.1) (sym f.1)) read
-    tagged_takes kind l ts None y ok at is =
-        let c = bind_some (eat open_brace ts) (λ after. s.with_body defs body more kind l None after) y is in
-        let f = eat_takes open_brace ts c.0 c.1 in
-        rw f.2 (body_step kind l None f.0 c.0 y c.2)
+  tagged_takes : (kind : TagKind) (l : ℕ) (ts : List Token) (o : Read Name) (y : Option Word × List Token) → has_spelling kind ≡ true → any_name ts ≡ o → s.tagged_by defs body kind l ts o ≡ Some y
+      → WordTaken defs (word l (tag_word kind) ∷ ts) y
+  tagged_takes kind l ts (Some n) y ok at is =
+      let f = any_takes ts n at in
+      let read = tag_takes kind l (line_at ts) n.0 n.1 (eat open_brace n.1) y ok refl is in
+      rw (f.2 ∙ ap (λ j. tok j (k.name n.0) ∷ n.1) (sym f.1)) read
+  tagged_takes kind l ts None y ok at is =
+      let c = bind_some (eat open_brace ts) (λ after. s.word_body defs body kind l None after) y is in
+      let f = eat_takes open_brace ts c.0 c.1 in
+      rw f.2 (body_step kind l None f.0 c.0 y c.2)
 
-    words_by_take : (ts : List Token) (st : Start) (y : Found × List Token) → StartTaken defs ts st → s.words_by defs body more (line_at ts) (behind ts) ts st ≡ Some y → WordsTaken defs ts y
-    words_by_take ts (s.storage c) y at is =
-        let b = bind_some (more (behind ts)) (λ f. Some (record f.0 { storages = c ∷ f.0.storages }, f.1)) y is in
-        let rest = more_takes (behind ts) b.0 b.1 in
-        let read : WordsTaken defs ts (with_storage c b.0.0, b.0.1) =
-        (p.more_parts (p.storage (line_at ts) c) rest.0, rest.1, ap (with_storage c) rest.2, at ∙ ap (λ v. word (line_at ts) (storage_word c) ∷ v) rest.3) in
-        rw (← some_is b.2) read
-    words_by_take ts s.typedef y at is =
-        let b = bind_some (more (behind ts)) (λ f. Some (record f.0 { typedefs = suc f.0.typedefs }, f.1)) y is in
-        let rest = more_takes (behind ts) b.0 b.1 in
-        let read : WordsTaken defs ts (with_typedef b.0.0, b.0.1) =
-        (p.more_parts (p.typedef (line_at ts)) rest.0, rest.1, ap with_typedef rest.2, at ∙ ap (λ v. word (line_at ts) typedef_word ∷ v) rest.3) in
-        rw (← some_is b.2) read
-    words_by_take ts (s.typed u) y at is =
-        let b = bind_some (more (behind ts)) (λ f. Some (record f.0 { parts = word_part (line_at ts) u ∷ f.0.parts }, f.1)) y is in
-        let rest = more_takes (behind ts) b.0 b.1 in
-        let read : WordsTaken defs ts (with_part (word_part (line_at ts) u) b.0.0, b.0.1) =
-        (p.more_parts (p.typed (word_part (line_at ts) u)) rest.0, (tt, rest.1), ap (with_part (word_part (line_at ts) u)) rest.2, at ∙ ap (λ v. word (line_at ts) (type_word u) ∷ v) rest.3) in
-        rw (← some_is b.2) read
-    words_by_take ts (s.tag kind) y at is = rw (at.1) (tagged_takes kind (line_at ts) (behind ts) (any_name (behind ts)) y at.0 refl is)
-    words_by_take ts (s.named n) y at is =
-        let b = bind_some (more (behind ts)) (λ f. Some (record f.0 { parts = name_part (line_at ts) n ∷ f.0.parts }, f.1)) y is in
-        let rest = more_takes (behind ts) b.0 b.1 in
-        let read : WordsTaken defs ts (with_part (name_part (line_at ts) n) b.0.0, b.0.1) =
-        (p.more_parts (p.typed (name_part (line_at ts) n)) rest.0, (at.0, rest.1), ap (with_part (name_part (line_at ts) n)) rest.2, at.1 ∙ ap (λ v. tok (line_at ts) (k.name n) ∷ v) rest.3) in
-        rw (← some_is b.2) read
-    words_by_take ts s.ends y at is =
-        let read : WordsTaken defs ts (nothing, ts) = (p.no_parts, tt, refl, refl) in
-        rw (← some_is is) read
+  word_by_takes : (ts : List Token) (st : Start) (y : Option Word × List Token) → StartTaken defs ts st → s.word_by defs body (line_at ts) (behind ts) ts st ≡ Some y → WordTaken defs ts y
+  word_by_takes ts (s.storage c) y at is =
+      let read : WordTaken defs ts (Some (s.storage_word c), behind ts) =
+      (p.storage (line_at ts) c, λ ps ok. ok, λ ps. refl, λ ps us same. at ∙ ap (λ v. word (line_at ts) (storage_word c) ∷ v) same) in
+      rw (← some_is is) read
+  word_by_takes ts s.typedef y at is =
+      let read : WordTaken defs ts (Some s.typedef_word, behind ts) =
+      (p.typedef (line_at ts), λ ps ok. ok, λ ps. refl, λ ps us same. at ∙ ap (λ v. word (line_at ts) typedef_word ∷ v) same) in
+      rw (← some_is is) read
+  word_by_takes ts (s.typed u) y at is =
+      let read : WordTaken defs ts (Some (s.type_part (word_part (line_at ts) u)), behind ts) =
+      (p.typed (word_part (line_at ts) u), λ ps ok. (tt, ok), λ ps. refl, λ ps us same. at ∙ ap (λ v. word (line_at ts) (type_word u) ∷ v) same) in
+      rw (← some_is is) read
+  word_by_takes ts (s.tag kind) y at is = rw (at.1) (tagged_takes kind (line_at ts) (behind ts) (any_name (behind ts)) y at.0 refl is)
+  word_by_takes ts (s.named n) y at is =
+      let read : WordTaken defs ts (Some (s.type_part (name_part (line_at ts) n)), behind ts) =
+      (p.typed (name_part (line_at ts) n), λ ps ok. (at.0, ok), λ ps. refl, λ ps us same. at.1 ∙ ap (λ v. tok (line_at ts) (k.name n) ∷ v) same) in
+      rw (← some_is is) read
+  word_by_takes ts s.ends y at is =
+      let read : WordTaken defs ts (None, ts) = refl in
+      rw (← some_is is) read
+
+  words_by_take : (more : List Token → Read Found) → ((ts : List Token) (y : Found × List Token) → more ts ≡ Some y → WordsTaken defs ts y)
+      → (ts : List Token) (o : Option Word) (after : List Token) (y : Found × List Token) → WordTaken defs ts (o, after) → s.words_by defs body more o after ≡ Some y → WordsTaken defs ts y
+  words_by_take more more_takes ts None after y taken is =
+      let read : WordsTaken defs ts (nothing, after) = (p.no_parts, tt, refl, taken) in
+      rw (← some_is is) read
+  words_by_take more more_takes ts (Some v) after y taken is =
+      let b = bind_some (more after) (λ f. Some (with_word v f.0, f.1)) y is in
+      let rest = more_takes after b.0 b.1 in
+      let read : WordsTaken defs ts (with_word v b.0.0, b.0.1) =
+      (p.more_parts taken.0 rest.0, taken.1 rest.0 rest.1, taken.2 rest.0 ∙ ap (with_word v) rest.2, taken.3 rest.0 b.0.1 rest.3) in
+      rw (← some_is b.2) read
 
   pub words_take : (j : ℕ) (ts : List Token) (y : Found × List Token) → words defs body j ts ≡ Some y → WordsTaken defs ts y
   unfolding words
   words_take zero ts y is = cc
-  words_take (suc j) ts y is = words_by_take (words defs body j) (words_take j) ts (start_at defs ts) y (start_taken defs ts) is
+  words_take (suc j) ts y is =
+      let b = bind_some (s.word defs body ts) (λ v. s.words_by defs body (words defs body j) v.0 v.1) y is in
+      words_by_take (words defs body j) (words_take j) ts b.0.0 b.0.1 y (word_by_takes ts (start_at defs ts) b.0 (start_taken defs ts) b.1) b.2
 
 -- ---- the type that is found
 

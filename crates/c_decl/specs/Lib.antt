@@ -6,3 +6,7 @@ pub mod ReadSpecs
 pub mod ReadDecl
 pub mod Laws
 pub mod Named
+pub mod Answers
+pub mod WordsOf
+pub mod HeadOf
+pub mod FoundAt

@@ -10,6 +10,7 @@ use Rattle.c_tree.specs.TreeDecl.{Types, TagDef, TagSpec, FileSpecs, LocalSpecs,
 use Rattle.c_tree.specs.TreeDecl as t
 use Rattle.c_tree.specs.TreeUnit.{Ext, FuncHead, ext_depth, head_depth}
 use Rattle.c_tree.specs.TreeUnit as u
+use Rattle.c_decl.specs.Named.{declares_function}
 use Rattle.c_tree.specs.WrittenType.{TypePart, word_part, tag_part, name_part, spelled}
 use Rattle.c_tree.specs.WrittenSpecs.{first_of, is_type_or_none, is_file_storage}
 use Rattle.c_tree.specs.WrittenDecl.{is_at_most_one}
@@ -67,19 +68,6 @@ abbrev pub head_specs : Found → Option (Option FileSpecs)
 head_specs f = pick (nat_eq f.typedefs 0) (head_specs_by (is_any f.storages f.parts f.bodies) (file_specs f)) None
 
 -- ---- what a declarator says
-
-abbrev pub is_name : Declr → Bool
-is_name (t.pointer l d) = false
-is_name (t.name l x) = true
-is_name (t.array l d e) = false
-is_name (t.function l d xs) = false
-
--- the suffix next to the name is that of a function
-abbrev pub is_head : Declr → Bool
-is_head (t.pointer l d) = is_head d
-is_head (t.name l x) = false
-is_head (t.array l d e) = is_head d
-is_head (t.function l d xs) = is_name d || is_head d
 
 abbrev pub goes_on : Tok → Bool
 goes_on (k.name x) = false
@@ -168,7 +156,7 @@ module _ (defs : List Name) (most : ℕ) (expr : ℕ → List Token → Read Exp
   -- behind the words and the first declarator: an object, or the head of a function
   abbrev pub declared_by : ℕ → Found → List Token → Declr → List Token → Bool → Read Outside
   declared_by l f ts d rest true = whole_at (object_by l (file_specs f) ts)
-  declared_by l f ts d rest false = head_at (head_by l (pick (is_head d) (head_specs f) None) d rest)
+  declared_by l f ts d rest false = head_at (head_by l (pick (declares_function d) (head_specs f) None) d rest)
 
   -- behind the words of a declaration, which has a `typedef` or not
   abbrev pub typed_by : ℕ → Found → List Token → Bool → Read Outside

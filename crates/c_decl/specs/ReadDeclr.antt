@@ -37,10 +37,16 @@ module _ (defs : List Name) (most : ℕ) (expr : ℕ → List Token → Read Exp
   params (t.array l d e) ts = no_names ts
   params (t.function l d xs) ts = no_names ts
 
+  -- behind the opening bracket of a suffix
+  abbrev pub array_by : ℕ → Declr → List Token → Read Declr
+  array_by l d ts = dimension_by ts (eat close_square ts) >>= λ x. grown declr_depth most (t.array l d x.0) x.1
+
+  abbrev pub function_by : ℕ → Declr → List Token → Read Declr
+  function_by l d ts = params d ts >>= λ x. grown declr_depth most (t.function l d x.0) x.1
+
   abbrev pub suffix_by : (Declr → List Token → Read Declr) → ℕ → Declr → List Token → Option (List Token) → Option (List Token) → Read Declr
-  suffix_by more l d ts (Some after) _ =
-      dimension_by after (eat close_square after) >>= λ x. grown declr_depth most (t.array l d x.0) x.1 >>= λ y. more y.0 y.1
-  suffix_by more l d ts None (Some after) = params d after >>= λ x. grown declr_depth most (t.function l d x.0) x.1 >>= λ y. more y.0 y.1
+  suffix_by more l d ts (Some after) _ = array_by l d after >>= λ y. more y.0 y.1
+  suffix_by more l d ts None (Some after) = function_by l d after >>= λ y. more y.0 y.1
   suffix_by more l d ts None None = Some (d, ts)
 
   unfoldable pub suffixes : ℕ → ℕ → Declr → List Token → Read Declr

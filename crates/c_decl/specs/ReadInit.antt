@@ -23,9 +23,24 @@ module _ (defs : List Name) (most : ℕ) (expr : ℕ → List Token → Read Exp
   inits inner zero ts = None
   inits inner (suc k) ts = inits_by inner (inits inner k) ts (eat comma_mark ts)
 
+  -- what follows a member of a group: a further member, or none and the closing brace
+  abbrev pub behind_comma : (List Token → Read Init) → List Token → Option (List Token) → Read (Option Init)
+  behind_comma inner ts (Some after) = Some (None, after)
+  behind_comma inner ts None = inner ts >>= λ x. Some (Some x.0, x.1)
+
+  abbrev pub next_init_by : (List Token → Read Init) → List Token → Option (List Token) → Read (Option Init)
+  next_init_by inner ts (Some after) = behind_comma inner after (eat close_brace after)
+  next_init_by inner ts None = eat close_brace ts >>= λ after. Some (None, after)
+
+  abbrev pub next_init : (List Token → Read Init) → List Token → Read (Option Init)
+  next_init inner ts = next_init_by inner ts (eat comma_mark ts)
+
+  -- the members of a group behind its opening brace
+  abbrev pub members : (List Token → Read Init) → List Token → Read Inits
+  members inner ts = inner ts >>= λ x. inits inner (suc (length x.1)) x.1 >>= λ y. Some (t.more_inits x.0 y.0, y.1)
+
   abbrev pub init_by : (List Token → Read Init) → List Token → Option (List Token) → Read Init
-  init_by inner ts (Some after) =
-      inner after >>= λ x. inits inner (suc (length x.1)) x.1 >>= λ y. grown init_depth most (t.group (line_at ts) (t.more_inits x.0 y.0)) y.1
+  init_by inner ts (Some after) = members inner after >>= λ x. grown init_depth most (t.group (line_at ts) x.0) x.1
   init_by inner ts None = expr 2 ts >>= λ e. grown init_depth most (t.single e.0) e.1
 
   unfoldable pub init : ℕ → List Token → Read Init

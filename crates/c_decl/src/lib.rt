@@ -6,10 +6,24 @@
 
 ghost use Rattle.c_decl.specs.Laws.{IsHeadRead, IsLocalRead, IsWholeRead};
 
+mod bodies;
+mod declarations;
+mod declarators;
+mod depth;
+mod front;
+mod initialisers;
+mod marks;
 mod names;
+mod outside;
+mod places;
+mod reader;
+mod spelling;
+mod types;
+mod words;
 
 use c_tree::{Declr, Ext, FileSpecs, ParDecl};
 pub use names::{declared_name, declares_function};
+pub use places::{external, local};
 
 /// The parts of a function but for its block, with the line of its first token, counted from 1.
 #[derive(Drop)]

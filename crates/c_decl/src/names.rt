@@ -2,6 +2,7 @@
 ghost use Rattle.std.specs.Prelude.{◌≡◌};
 ghost use Rattle.c_tree.specs.TreeOf.{declr_of};
 ghost use Rattle.c_tree.specs.WrittenDeclr.{declared};
+ghost use Rattle.c_decl.specs.ReadDeclr.{has_names as has_names_lem};
 ghost use Rattle.c_decl.specs.Named.{is_name as is_name_lem, declares_function as declares_function_lem};
 
 use c_tree::Declr;
@@ -37,5 +38,17 @@ pub fn declares_function(declr: &Declr) -> bool
         Declr::Pointer(_, inner) => declares_function(inner),
         Declr::Array(_, inner, _) => declares_function(inner),
         Declr::Function(_, inner, _) => is_name(inner) || declares_function(inner),
+    }
+}
+
+/// Whether a function's suffix has names of parameters.
+pub fn has_names(declr: &Declr) -> bool
+    ensures answer { result ≡ has_names_lem (declr_of declr.now) }
+{
+    match declr {
+        Declr::Name(_, _) => false,
+        Declr::Pointer(_, inner) => has_names(inner),
+        Declr::Array(_, inner, _) => has_names(inner),
+        Declr::Function(_, inner, names) => !names.is_empty() || has_names(inner),
     }
 }

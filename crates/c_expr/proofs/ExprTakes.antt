@@ -186,6 +186,11 @@ module _ (defs : List Name) (most : ℕ) (positive : 1 ≤ most) (inner : ℕ �
       let g = grown_takes e ts c.0 c.1 in
       goes e ts x (record { written = v; levelled = (high, ok); plain_is = same; tokens = tokens }) line_is g.1 (ap (λ y. more y.0 y.1) g.0 ∙ c.2)
 
+  -- a step and what goes on from it, part by part
+  apart : (more : Expr → List Token → Read Expr) (o : Read Expr) → (o >>= λ y. grown expr_depth most y.0 y.1 >>= λ z. more z.0 z.1) ≡ r.again defs most inner more o
+  apart more None = refl
+  apart more (Some y) = refl
+
   -- a step whose part was read
   step_on : (more : Expr → List Token → Read Expr) (x : Expr × List Token) (y : Expr × List Token) (o : Read Expr) → o ≡ Some y → r.again defs most inner more o ≡ Some x → (grown expr_depth most y.0 y.1 >>= λ z. more z.0 z.1) ≡ Some x
   step_on more x y o at is = sym (ap (λ o. r.again defs most inner more o) at) ∙ is
@@ -194,7 +199,7 @@ module _ (defs : List Name) (most : ℕ) (positive : 1 ≤ most) (inner : ℕ �
       → GoesOn 15 line start more → (s : Spells defs 15 e start ts) → first s.written ≡ line → expr_depth e ≤ most → eat 21 ts ≡ o → eat 23 ts ≡ q → eat 27 ts ≡ u → eat 4 ts ≡ v → front_mark step_of ts ≡ z
       → r.suffix_by defs most inner more line e ts o q u v z ≡ Some x → Takes 15 start x
   suffix_by_takes more line start e ts (Some after) q u v z x goes s line_is low at at2 at3 at4 at5 is =
-      let b = bind_some (r.called defs most inner line e (r.args defs most inner after)) (λ y. grown expr_depth most y.0 y.1 >>= λ y. more y.0 y.1) x is in
+      let b = bind_some (r.called defs most inner line e (r.args defs most inner after)) (λ y. grown expr_depth most y.0 y.1 >>= λ y. more y.0 y.1) x (apart more (r.called defs most inner line e (r.args defs most inner after)) ∙ is) in
       let c = bind_some (r.args defs most inner after) (λ y. Some (t.call line e y.0, y.1)) b.0 b.1 in
       let a = args_takes after c.0 c.1 in
       let f = eat_takes 21 ts after at in
@@ -203,7 +208,7 @@ module _ (defs : List Name) (most : ℕ) (positive : 1 ≤ most) (inner : ℕ �
       (ap (λ y. t.call y (plain s.written) (plains a.0)) line_is ∙ ap (λ y. t.call line y (plains a.0)) s.plain_is ∙ ap (t.call line e) a.2)
       (s.tokens ∙ ap (spell s.written) (f.2 ∙ ap (λ y. mark f.0 21 ∷ y) a.4)) line_is (ap (λ y. grown expr_depth most y.0 y.1 >>= λ y. more y.0 y.1) same ∙ b.2)
   suffix_by_takes more line start e ts None (Some after) u v z x goes s line_is low at at2 at3 at4 at5 is =
-      let b = bind_some (r.indexed defs most inner line e (r.enclosed defs most inner 24 after)) (λ y. grown expr_depth most y.0 y.1 >>= λ y. more y.0 y.1) x is in
+      let b = bind_some (r.indexed defs most inner line e (r.enclosed defs most inner 24 after)) (λ y. grown expr_depth most y.0 y.1 >>= λ y. more y.0 y.1) x (apart more (r.indexed defs most inner line e (r.enclosed defs most inner 24 after)) ∙ is) in
       let c = bind_some (r.enclosed defs most inner 24 after) (λ y. Some (t.index line e y.0, y.1)) b.0 b.1 in
       let a = enclosed_takes 24 after c.0 c.1 in
       let f = eat_takes 23 ts after at2 in
@@ -212,7 +217,7 @@ module _ (defs : List Name) (most : ℕ) (positive : 1 ≤ most) (inner : ℕ �
       (ap (λ y. t.index y (plain s.written) (plain a.1.written)) line_is ∙ ap (λ y. t.index line y (plain a.1.written)) s.plain_is ∙ ap (t.index line e) a.1.plain_is)
       (s.tokens ∙ ap (spell s.written) (f.2 ∙ ap (λ y. mark f.0 23 ∷ y) (a.1.tokens ∙ ap (spell a.1.written) a.2.2))) line_is (ap (λ y. grown expr_depth most y.0 y.1 >>= λ y. more y.0 y.1) same ∙ b.2)
   suffix_by_takes more line start e ts None None (Some after) v z x goes s line_is low at at2 at3 at4 at5 is =
-      let b = bind_some (r.selected defs most inner (t.member line) e (name_at defs after)) (λ y. grown expr_depth most y.0 y.1 >>= λ y. more y.0 y.1) x is in
+      let b = bind_some (r.selected defs most inner (t.member line) e (name_at defs after)) (λ y. grown expr_depth most y.0 y.1 >>= λ y. more y.0 y.1) x (apart more (r.selected defs most inner (t.member line) e (name_at defs after)) ∙ is) in
       let c = bind_some (name_at defs after) (λ y. Some (t.member line e y.0, y.1)) b.0 b.1 in
       let g = name_takes defs after c.0 c.1 in
       let f = eat_takes 27 ts after at3 in
@@ -221,7 +226,7 @@ module _ (defs : List Name) (most : ℕ) (positive : 1 ≤ most) (inner : ℕ �
       (ap (λ y. t.member y (plain s.written) c.0.0) line_is ∙ ap (λ y. t.member line y c.0.0) s.plain_is)
       (s.tokens ∙ ap (spell s.written) (f.2 ∙ ap (λ y. mark f.0 27 ∷ y) g.0.2)) line_is (ap (λ y. grown expr_depth most y.0 y.1 >>= λ y. more y.0 y.1) same ∙ b.2)
   suffix_by_takes more line start e ts None None None (Some after) z x goes s line_is low at at2 at3 at4 at5 is =
-      let b = bind_some (r.selected defs most inner (t.arrow line) e (name_at defs after)) (λ y. grown expr_depth most y.0 y.1 >>= λ y. more y.0 y.1) x is in
+      let b = bind_some (r.selected defs most inner (t.arrow line) e (name_at defs after)) (λ y. grown expr_depth most y.0 y.1 >>= λ y. more y.0 y.1) x (apart more (r.selected defs most inner (t.arrow line) e (name_at defs after)) ∙ is) in
       let c = bind_some (name_at defs after) (λ y. Some (t.arrow line e y.0, y.1)) b.0 b.1 in
       let g = name_takes defs after c.0 c.1 in
       let f = eat_takes 4 ts after at4 in
@@ -339,7 +344,7 @@ module _ (defs : List Name) (most : ℕ) (positive : 1 ≤ most) (inner : ℕ �
       let four : 4 ≤ binary_level p.0 = (binary_range p.0).0 in
       let bound : binary_level p.0 ≤ 13 = (binary_range p.0).1 in
       let f = operator_takes l ts p at in
-      let b = bind_some (inner (suc (binary_level p.0)) p.1 >>= λ y. Some (t.binary line p.0 e y.0, y.1)) (λ y. grown expr_depth most y.0 y.1 >>= λ z. more z.0 z.1) x is in
+      let b = bind_some (inner (suc (binary_level p.0)) p.1 >>= λ y. Some (t.binary line p.0 e y.0, y.1)) (λ y. grown expr_depth most y.0 y.1 >>= λ z. more z.0 z.1) x (apart more (inner (suc (binary_level p.0)) p.1 >>= λ y. Some (t.binary line p.0 e y.0, y.1)) ∙ is) in
       let d = bind_some (inner (suc (binary_level p.0)) p.1) (λ y. Some (t.binary line p.0 e y.0, y.1)) b.0 b.1 in
       let a = inner_takes (suc (binary_level p.0)) p.1 d.0 (omega arith) d.1 in
       let same : (t.binary line p.0 e d.0.0, d.0.1) ≡ b.0 = some_is d.2 in
@@ -419,7 +424,7 @@ module _ (defs : List Name) (most : ℕ) (positive : 1 ≤ most) (inner : ℕ �
   commas_by_take more l start e ts None x goes h at is = rw (← some_is is) h
   commas_by_take more l start e ts (Some after) x goes h at is =
       let f = comma_takes l ts after at in
-      let b = bind_some (inner 2 after >>= λ y. Some (t.comma (line_at start) e y.0, y.1)) (λ y. grown expr_depth most y.0 y.1 >>= λ z. more z.0 z.1) x is in
+      let b = bind_some (inner 2 after >>= λ y. Some (t.comma (line_at start) e y.0, y.1)) (λ y. grown expr_depth most y.0 y.1 >>= λ z. more z.0 z.1) x (apart more (inner 2 after >>= λ y. Some (t.comma (line_at start) e y.0, y.1)) ∙ is) in
       let d = bind_some (inner 2 after) (λ y. Some (t.comma (line_at start) e y.0, y.1)) b.0 b.1 in
       let a = inner_takes 2 after d.0 (omega arith) d.1 in
       let same : (t.comma (line_at start) e d.0.0, d.0.1) ≡ b.0 = some_is d.2 in

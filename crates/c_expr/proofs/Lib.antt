@@ -7,3 +7,8 @@ pub mod Marks
 pub mod TypeAgain
 pub mod ExprAgain
 pub mod Joined
+pub mod Turns
+pub mod Told
+pub mod Walk
+pub mod Place
+pub mod Answered

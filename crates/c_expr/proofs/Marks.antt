@@ -270,6 +270,32 @@ ends_before_colon l line ts = record {
   no_comma = always_none (nat_lt 1 l) _ refl;
 }
 
+pub ends_before_semicolon : (l line : ℕ) (ts : List Token) → Ends l (mark line 29 ∷ ts)
+ends_before_semicolon l line ts = record {
+  no_call = refl;
+  no_index = refl;
+  no_member = refl;
+  no_arrow = refl;
+  no_step = refl;
+  no_operator = refl;
+  no_assign = always_none (nat_lt 2 l) _ refl;
+  no_choice = always_none (nat_lt 3 l) _ refl;
+  no_comma = always_none (nat_lt 1 l) _ refl;
+}
+
+pub ends_before_brace : (l line : ℕ) (ts : List Token) → Ends l (mark line 26 ∷ ts)
+ends_before_brace l line ts = record {
+  no_call = refl;
+  no_index = refl;
+  no_member = refl;
+  no_arrow = refl;
+  no_step = refl;
+  no_operator = refl;
+  no_assign = always_none (nat_lt 2 l) _ refl;
+  no_choice = always_none (nat_lt 3 l) _ refl;
+  no_comma = always_none (nat_lt 1 l) _ refl;
+}
+
 pub ends_before_comma : (l line : ℕ) (ts : List Token) → 2 ≤ l → Ends l (mark line 28 ∷ ts)
 ends_before_comma l line ts two = record {
   no_call = refl;

@@ -19,7 +19,7 @@ abbrev tags : List TagKind
 tags = Struct ∷ Enum ∷ []
 
 -- a part at the front
-abbrev PartTaken : List Name → List Token → TypePart × List Token → Type 0
+abbrev pub PartTaken : List Name → List Token → TypePart × List Token → Type 0
 PartTaken defs ts y = IsPart defs y.0 × (part_line y.0 ≡ line_at ts) × (ts ≡ spell_part y.0 y.1)
 
 tag_has : (w : ℕ) (kind : TagKind) → tag_of w ≡ Some kind → has_spelling kind ≡ true
@@ -59,7 +59,7 @@ tok_taken defs x ts (k.text bytes) y is e = cc
 tok_taken defs x ts (k.word w) y is e = word_taken defs x ts w (type_word_of w) (tag_of w) y is refl refl e
 tok_taken defs x ts (k.mark m) y is e = cc
 
-part_taken : (defs : List Name) (ts : List Token) (y : TypePart × List Token) → part_at defs ts ≡ Some y → PartTaken defs ts y
+pub part_taken : (defs : List Name) (ts : List Token) (y : TypePart × List Token) → part_at defs ts ≡ Some y → PartTaken defs ts y
 part_taken defs [] y e = cc
 part_taken defs (x ∷ ts) y e = tok_taken defs x ts x.kind y refl e
 

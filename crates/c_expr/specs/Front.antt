@@ -40,6 +40,19 @@ abbrev pub eat_word : ℕ → List Token → Option (List Token)
 eat_word w [] = None
 eat_word w (x ∷ ts) = pick (is_word w x.kind) (Some ts) None
 
+abbrev pub mark_of : List Token → Tok → Read ℕ
+mark_of ts (k.name x) = None
+mark_of ts (k.int n long) = None
+mark_of ts (k.chr n) = None
+mark_of ts (k.text bytes) = None
+mark_of ts (k.word w) = None
+mark_of ts (k.mark m) = Some (m, ts)
+
+-- a mark, whichever it is
+abbrev pub mark_at : List Token → Read ℕ
+mark_at [] = None
+mark_at (x ∷ ts) = mark_of ts x.kind
+
 abbrev pub line_at : List Token → ℕ
 line_at [] = 0
 line_at (x ∷ ts) = x.line

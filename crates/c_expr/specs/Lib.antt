@@ -3,3 +3,14 @@ pub mod Typename
 pub mod Reading
 pub mod Ends
 pub mod Laws
+pub mod Typedefs
+pub mod Answer
+pub mod Shown
+pub mod Gives
+pub mod Parts
+pub mod Suffix
+pub mod Tally
+pub mod Part
+pub mod Types
+pub mod Brackets
+pub mod Exact

@@ -73,8 +73,11 @@ module _ (defs : List Name) (most : ℕ) (inner : ℕ → List Token → Read Ex
   unfoldable pub args : List Token → Read Exprs
   args ts = args_by ts (eat close_round ts)
 
+  abbrev pub grow : Read Expr → Read Expr
+  grow x = x >>= λ y. grown expr_depth most y.0 y.1
+
   abbrev pub again : (Expr → List Token → Read Expr) → Read Expr → Read Expr
-  again more x = x >>= λ y. grown expr_depth most y.0 y.1 >>= λ z. more z.0 z.1
+  again more x = grow x >>= λ z. more z.0 z.1
 
   abbrev pub called : ℕ → Expr → Read Exprs → Read Expr
   called l e x = x >>= λ y. Some (t.call l e y.0, y.1)
@@ -100,9 +103,6 @@ module _ (defs : List Name) (most : ℕ) (inner : ℕ → List Token → Read Ex
 
   unfoldable pub postfix : List Token → Read Expr
   postfix ts = primary ts >>= λ x. suffixes (suc most) (line_at ts) x.0 x.1
-
-  abbrev pub grow : Read Expr → Read Expr
-  grow x = x >>= λ y. grown expr_depth most y.0 y.1
 
   abbrev pub sized_by : ℕ → List Token → Option (List Token) → Read Expr
   sized_by l ts (Some after) = grow (typed defs after >>= λ y. Some (t.size_of_type l y.0, y.1))

@@ -4,10 +4,23 @@
 //! Three laws join them, each the contract of a function that does nothing.
 #![tactic(auto)]
 
+mod brackets;
+mod error;
+mod front;
+mod nodes;
+mod places;
+mod productions;
+mod reader;
+mod rest;
+mod suffix;
+mod tally;
 mod typedefs;
+mod typename;
 
 ghost use Rattle.c_expr.specs.Laws.{IsOneReading, IsSpelled, IsRead};
 
+pub use error::ParseErr;
+pub use reader::expr;
 pub use typedefs::Typedefs;
 
 /// At most one expression of a level spells tokens up to where it may end.

@@ -1,0 +1,18 @@
+-- By what a reader of the code reads the parts of an expression.
+use Rattle.std.specs.Prelude.{ℕ, List}
+use Rattle.c_type.specs.Names.{Name}
+use Rattle.c_type.specs.Tokens.{Token}
+use Rattle.c_tree.specs.TreeExpr.{Expr}
+use Rattle.c_tree.specs.Reads.{most}
+use Rattle.c_expr.specs.declared.reader.Reader.{Reader}
+use Rattle.c_expr.specs.Front.{Read}
+use Rattle.c_expr.specs.Reading as r
+use Rattle.c_expr.specs.Typedefs.{names_of}
+
+-- the typedef names
+abbrev pub names : Reader → List Name
+names s = names_of s.defs.now
+
+-- a part of the level, where parts and brackets stand no deeper in one another than the number
+abbrev pub inner : Reader → ℕ → ℕ → List Token → Read Expr
+inner s nested = r.expr (names s) most nested

@@ -1,0 +1,8 @@
+-- The typedef names of a unit up to a place in it.
+use Rattle.std.specs.Prelude.{List}
+use Rattle.c_type.specs.Names.{Name}
+use Rattle.c_expr.specs.declared.typedefs.Typedefs.{Typedefs}
+
+-- the names of the set
+abbrev pub names_of : Typedefs → List Name
+names_of d = d.list.items
