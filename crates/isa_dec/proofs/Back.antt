@@ -283,7 +283,7 @@ byte_row_back f (b ∷ bs) all =
 
 with_form_back : (o : Option Form) (front bs : List ℕ) → FormAt front o → AllBytes bs → DecReads (front ++ bs) (with_form o bs)
 with_form_back None front bs h all = tt
-with_form_back (Some (Whole i)) front bs h all = (h.1, refl, (bs, ap (λ l. l ++ bs) (sym h.0)))
+with_form_back (Some (Whole f)) front bs h all = (h.1, refl, (bs, ap (λ l. l ++ bs) (sym h.0)))
 with_form_back (Some (Byte f)) front bs h all = subst (λ l. DecReads (l ++ bs) (byte_row f bs)) h.0 (byte_row_back f bs all)
 with_form_back (Some (Number f)) front bs h all = subst (λ l. DecReads (l ++ bs) (number_row f bs)) h.0 (number_row_back f bs h.1 all)
 with_form_back (Some (Operand f)) front bs h all = subst (λ l. DecReads (l ++ bs) (operand_row f bs)) h.0 (operand_row_back f bs all)

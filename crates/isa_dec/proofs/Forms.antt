@@ -20,7 +20,7 @@ use Rattle.isa_dec.specs.declared.form.NumberedForm.TheVariants.{MoveNumbered, A
 use Rattle.isa_dec.specs.declared.dec.Page.{Page}
 use Rattle.isa_dec.specs.declared.dec.Page.TheVariants.{TwoBytes, Word, Repeated}
 use Rattle.isa_dec.specs.OpcodeAt.{cond_at, arith_at, arith_opcode, arith_form, single_form, short_branch, one_byte, near_branch, set_form, two_bytes}
-use Rattle.isa_dec.specs.Decoded.{page_form}
+use Rattle.isa_dec.specs.Decoded.{whole_ins, page_form}
 use Rattle.isa386.specs.Encoding.{arith_digit, cond_code, encoding}
 use Rattle.isa386.specs.Row.{IsRow}
 
@@ -61,7 +61,7 @@ numbered_bytes MoveNumbered = 0xC7 ∷ []
 numbered_bytes ArithNumbered = 0x81 ∷ []
 
 abbrev pub form_bytes : Form → List ℕ
-form_bytes (Whole i) = encoding i
+form_bytes (Whole f) = encoding (whole_ins f)
 form_bytes (Byte f) = byte_bytes f
 form_bytes (Number f) = number_bytes f
 form_bytes (Operand f) = opcode_bytes f
@@ -76,7 +76,7 @@ IsNumberForm JumpNear = Unit {0}
 IsNumberForm (BranchNear c) = Unit {0}
 
 abbrev pub IsForm : Form → Type 0
-IsForm (Whole i) = IsRow i
+IsForm (Whole f) = IsRow (whole_ins f)
 IsForm (Byte f) = Unit {0}
 IsForm (Number f) = IsNumberForm f
 IsForm (Operand f) = Unit {0}

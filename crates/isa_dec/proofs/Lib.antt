@@ -1,5 +1,6 @@
 pub mod Numbers
 pub mod Operands
+pub mod Lengths
 pub mod Forms
 pub mod Back
 pub mod Forth

@@ -83,7 +83,7 @@ byte_known f (b ∷ bs) h = cc
 
 with_form_more : (o : Option Form) (bs p : List ℕ) → with_form o bs ≡ Unknown → with_form o (bs ++ p) ≡ Unknown
 with_form_more None bs p h = refl
-with_form_more (Some (Whole i)) bs p h = absurd (cc)
+with_form_more (Some (Whole f)) bs p h = absurd (cc)
 with_form_more (Some (Byte f)) bs p h = absurd (byte_known f bs h)
 with_form_more (Some (Number f)) bs p h = absurd (number_known f (number_at 0 bs) h)
 with_form_more (Some (Operand f)) bs p h = operand_row_more f bs p h

@@ -10,16 +10,21 @@ use Rattle.isa386.specs.declared.Dw.TheVariants.{D0, D8, D32}
 use Rattle.isa386.specs.declared.Opnd.{Opnd}
 use Rattle.isa386.specs.declared.Opnd.TheVariants.{Reg, Mem}
 use Rattle.isa386.specs.declared.Dest.TheVariants.{Register, Operand as ToMemory}
-use Rattle.isa386.specs.declared.StackOp.TheVariants.{PushImm}
+use Rattle.isa386.specs.declared.StackOp.TheVariants.{Push, PushImm, Pop}
 use Rattle.isa386.specs.declared.UnaryOp.TheVariants.{Not, Neg}
 use Rattle.isa386.specs.declared.DivideOp.TheVariants.{Unsigned, Signed}
 use Rattle.isa386.specs.declared.ShiftOp.TheVariants.{Left, Right, Arithmetic}
 use Rattle.isa386.specs.declared.Callee.TheVariants.{Relative, Indirect}
+use Rattle.isa386.specs.declared.PlainOp.TheVariants.{Ret, Leave, Nop}
+use Rattle.isa386.specs.declared.StringOp.TheVariants.{RepMovsb, RepStosb, Cld}
+use Rattle.isa386.specs.declared.Narrow.TheVariants.{ByteToOperand, ByteToRegister, WordToOperand}
 use Rattle.isa386.specs.declared.Target.TheVariants.{Near, Short as Close}
 use Rattle.isa386.specs.declared.Ins.{Ins}
-use Rattle.isa386.specs.declared.Ins.TheVariants.{Move, MoveImm, MoveNarrow, Lea, Stack, ArithTo, ArithFrom, ArithImm, Test, Imul, Unary, Divide, Shift, Set, Widen, Call, Jump, Branch, Lcall}
+use Rattle.isa386.specs.declared.Ins.TheVariants.{Move, MoveImm, MoveNarrow, Lea, Stack, ArithTo, ArithFrom, ArithImm, Test, Imul, Unary, Divide, Cltd, Shift, Set, Widen, Call, Jump, Branch, Plain, Int3, Str, Lcall}
 use Rattle.isa_dec.specs.declared.form.Form.{Form}
 use Rattle.isa_dec.specs.declared.form.Form.TheVariants.{Whole, Byte, Number, Operand, Numbered}
+use Rattle.isa_dec.specs.declared.form.WholeForm.{WholeForm}
+use Rattle.isa_dec.specs.declared.form.WholeForm.TheVariants.{PushForm, PopForm, CltdForm, RetForm, LeaveForm, NopForm, Int3Form, MovsbForm, StosbForm, CldForm}
 use Rattle.isa_dec.specs.declared.form.ByteForm.{ByteForm}
 use Rattle.isa_dec.specs.declared.form.ByteForm.TheVariants.{ShortJump, ShortBranch}
 use Rattle.isa_dec.specs.declared.form.NumberForm.{NumberForm}
@@ -37,14 +42,29 @@ use Rattle.isa_dec.specs.declared.dec.Page.TheVariants.{TwoBytes, Word, Repeated
 use Rattle.isa_dec.specs.OperandAt.{number_at, operand_at}
 use Rattle.isa_dec.specs.OpcodeAt.{arith_at, one_byte, two_bytes, word_form, repeated_form}
 
+-- an instruction and the number of its bytes
 abbrev pub found : Ins → Dec
 found i = IsIns i (length (encoding i))
+
+-- rows that are an opcode alone
+abbrev pub whole_ins : WholeForm → Ins
+whole_ins (PushForm r) = Stack (Push r)
+whole_ins (PopForm r) = Stack (Pop r)
+whole_ins CltdForm = Cltd
+whole_ins RetForm = Plain Ret
+whole_ins LeaveForm = Plain Leave
+whole_ins NopForm = Plain Nop
+whole_ins Int3Form = Int3
+whole_ins MovsbForm = Str RepMovsb
+whole_ins StosbForm = Str RepStosb
+whole_ins CldForm = Str Cld
 
 -- rows that end with a signed byte
 abbrev pub byte_ins : ByteForm → ℕ → Ins
 byte_ins ShortJump b = Jump (Close (cast_signed w8 b))
 byte_ins (ShortBranch c) b = Branch c (Close (cast_signed w8 b))
 
+-- what such a row and the bytes behind its opcode make
 abbrev pub byte_row : ByteForm → List ℕ → Dec
 byte_row form [] = Short
 byte_row form (b ∷ rest) = found (byte_ins form b)
@@ -57,10 +77,12 @@ number_ins CallNear n = Call (Relative (cast_signed w32 n))
 number_ins JumpNear n = Jump (Near (cast_signed w32 n))
 number_ins (BranchNear c) n = Branch c (Near (cast_signed w32 n))
 
+-- such a row with the number, if it is there
 abbrev pub number_found : NumberForm → Option ℕ → Dec
 number_found form None = Short
 number_found form (Some n) = found (number_ins form n)
 
+-- what such a row and the bytes behind its opcode make
 abbrev pub number_row : NumberForm → List ℕ → Dec
 number_row form rest = number_found form (number_at 0 rest)
 
@@ -105,6 +127,24 @@ row_of (SetForm c) reg rm = Set c rm
 row_of (WidenForm op) reg rm = Widen op reg rm
 row_of CallForm reg rm = Call (Indirect rm)
 
+-- the number of bytes of an opcode that an operand follows
+abbrev pub opcode_size : OperandForm → ℕ
+opcode_size (MoveForm way) = 1
+opcode_size (NarrowForm ByteToOperand) = 1
+opcode_size (NarrowForm ByteToRegister) = 1
+opcode_size (NarrowForm WordToOperand) = 2
+opcode_size LeaForm = 1
+opcode_size (ToForm op) = 1
+opcode_size (FromForm op) = 1
+opcode_size TestForm = 1
+opcode_size ImulForm = 2
+opcode_size GroupForm = 1
+opcode_size ShiftForm = 1
+opcode_size (SetForm c) = 2
+opcode_size (WidenForm op) = 2
+opcode_size CallForm = 1
+
+-- such a row with the operand, if it is there
 abbrev pub operand_found : OperandForm → ℕ → OperandPart → Dec
 operand_found form reg (Is rm) = found (row_of form reg rm)
 operand_found form reg Cut = Short
@@ -116,14 +156,17 @@ operand_row form [] = Short
 operand_row form (modrm ∷ rest) =
     if accepts form modrm then operand_found form (digit_of modrm) (operand_at modrm rest) else Unknown
 
+-- whether a ModRM byte can stand behind an opcode whose operand a number follows
 abbrev pub accepts_numbered : NumberedForm → ℕ → Bool
 accepts_numbered MoveNumbered modrm = digit_of modrm == 0
 accepts_numbered ArithNumbered modrm = not (digit_of modrm == 2) && not (digit_of modrm == 3)
 
+-- the operation of a digit; only the digits of operations are accepted
 abbrev pub or_compare : Option ArithOp → ArithOp
 or_compare None = Cmp
 or_compare (Some op) = op
 
+-- the row of such an opcode and a digit
 abbrev pub numbered_of : NumberedForm → ℕ → Opnd → ℕ → Ins
 numbered_of MoveNumbered reg rm n = MoveImm (ToMemory rm) n
 numbered_of ArithNumbered reg rm n = ArithImm (or_compare (arith_at reg)) rm n
@@ -140,10 +183,12 @@ extra (Reg r) = 0
 extra (Mem base None d width) = width_bytes width
 extra (Mem base (Some index) d width) = 1 + width_bytes width
 
+-- such a row with the number, if it is there
 abbrev pub numbered_found : NumberedForm → ℕ → Opnd → Option ℕ → Dec
 numbered_found form reg rm None = Short
 numbered_found form reg rm (Some n) = found (numbered_of form reg rm n)
 
+-- such a row with the operand and the number, if they are there
 abbrev pub numbered_operand : NumberedForm → ℕ → OperandPart → List ℕ → Dec
 numbered_operand form reg (Is rm) rest = numbered_found form reg rm (number_at (extra rm) rest)
 numbered_operand form reg Cut rest = Short
@@ -158,12 +203,21 @@ numbered_row form (modrm ∷ rest) =
 -- what the bytes behind an opcode make
 abbrev pub with_form : Option Form → List ℕ → Dec
 with_form None rest = Unknown
-with_form (Some (Whole i)) rest = found i
+with_form (Some (Whole form)) rest = found (whole_ins form)
 with_form (Some (Byte form)) rest = byte_row form rest
 with_form (Some (Number form)) rest = number_row form rest
 with_form (Some (Operand form)) rest = operand_row form rest
 with_form (Some (Numbered form)) rest = numbered_row form rest
 
+-- the page of the opcodes that begin with a byte
+abbrev pub page_at : ℕ → Option Page
+page_at first =
+    if first == 0x0F then Some TwoBytes
+    else if first == 0x66 then Some Word
+    else if first == 0xF3 then Some Repeated
+    else None
+
+-- what the second byte of an opcode asks for
 abbrev pub page_form : Page → ℕ → Option Form
 page_form TwoBytes b = two_bytes b
 page_form Word b = word_form b
@@ -174,6 +228,7 @@ abbrev pub behind : Page → List ℕ → Dec
 behind page [] = Short
 behind page (b ∷ rest) = with_form (page_form page b) rest
 
+-- the bytes of the system call behind its opcode
 abbrev pub far_pointer : List ℕ
 far_pointer = 0 ∷ 0 ∷ 0 ∷ 0 ∷ 7 ∷ 0 ∷ []
 

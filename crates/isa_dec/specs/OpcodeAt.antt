@@ -7,12 +7,9 @@ use Rattle.isa386.specs.declared.Cond.TheVariants.{Overflow, NotOverflow, Below,
 use Rattle.isa386.specs.declared.Way.TheVariants.{ToOperand, ToRegister}
 use Rattle.isa386.specs.declared.Narrow.TheVariants.{ByteToOperand, ByteToRegister, WordToOperand}
 use Rattle.isa386.specs.declared.WidenOp.TheVariants.{SignedByte, SignedWord, ZeroByte, ZeroWord}
-use Rattle.isa386.specs.declared.StackOp.TheVariants.{Push, Pop}
-use Rattle.isa386.specs.declared.PlainOp.TheVariants.{Ret, Leave, Nop}
-use Rattle.isa386.specs.declared.StringOp.TheVariants.{RepMovsb, RepStosb, Cld}
-use Rattle.isa386.specs.declared.Ins.TheVariants.{Stack, Cltd, Plain, Int3, Str}
 use Rattle.isa_dec.specs.declared.form.Form.{Form}
 use Rattle.isa_dec.specs.declared.form.Form.TheVariants.{Whole, Byte, Number, Operand, Numbered}
+use Rattle.isa_dec.specs.declared.form.WholeForm.TheVariants.{PushForm, PopForm, CltdForm, RetForm, LeaveForm, NopForm, Int3Form, MovsbForm, StosbForm, CldForm}
 use Rattle.isa_dec.specs.declared.form.ByteForm.TheVariants.{ShortJump, ShortBranch}
 use Rattle.isa_dec.specs.declared.form.NumberForm.TheVariants.{MoveNumber, PushNumber, CallNear, JumpNear, BranchNear}
 use Rattle.isa_dec.specs.declared.form.OperandForm.TheVariants.{MoveForm, NarrowForm, LeaForm, ToForm, FromForm, TestForm, ImulForm, GroupForm, ShiftForm, SetForm, WidenForm, CallForm}
@@ -48,6 +45,7 @@ arith_at digit =
     if digit == 7 then Some Cmp else
     None
 
+-- the form of an operation and the low digit of its opcode
 abbrev pub arith_opcode : ℕ → Option ArithOp → Option Form
 arith_opcode low None = None
 arith_opcode low (Some op) = if low == 1 then Some (Operand (ToForm op)) else if low == 3 then Some (Operand (FromForm op)) else None
@@ -67,21 +65,22 @@ single_form b =
     if b == 0x8A then Some (Operand (NarrowForm ByteToRegister)) else
     if b == 0x8B then Some (Operand (MoveForm ToRegister)) else
     if b == 0x8D then Some (Operand LeaForm) else
-    if b == 0x90 then Some (Whole (Plain Nop)) else
-    if b == 0x99 then Some (Whole Cltd) else
-    if b == 0xC3 then Some (Whole (Plain Ret)) else
+    if b == 0x90 then Some (Whole NopForm) else
+    if b == 0x99 then Some (Whole CltdForm) else
+    if b == 0xC3 then Some (Whole RetForm) else
     if b == 0xC7 then Some (Numbered MoveNumbered) else
-    if b == 0xC9 then Some (Whole (Plain Leave)) else
-    if b == 0xCC then Some (Whole Int3) else
+    if b == 0xC9 then Some (Whole LeaveForm) else
+    if b == 0xCC then Some (Whole Int3Form) else
     if b == 0xD3 then Some (Operand ShiftForm) else
     if b == 0xE8 then Some (Number CallNear) else
     if b == 0xE9 then Some (Number JumpNear) else
     if b == 0xEB then Some (Byte ShortJump) else
     if b == 0xF7 then Some (Operand GroupForm) else
-    if b == 0xFC then Some (Whole (Str Cld)) else
+    if b == 0xFC then Some (Whole CldForm) else
     if b == 0xFF then Some (Operand CallForm) else
     None
 
+-- a jump of this condition over a signed byte
 abbrev pub short_branch : Option Cond → Option Form
 short_branch None = None
 short_branch (Some c) = Some (Byte (ShortBranch c))
@@ -90,16 +89,18 @@ short_branch (Some c) = Some (Byte (ShortBranch c))
 abbrev pub one_byte : ℕ → Option Form
 one_byte b =
     if nat_lt b 0x40 then arith_form b
-    else if nat_le 0x50 b && nat_lt b 0x58 then Some (Whole (Stack (Push (b - 0x50))))
-    else if nat_le 0x58 b && nat_lt b 0x60 then Some (Whole (Stack (Pop (b - 0x58))))
+    else if nat_le 0x50 b && nat_lt b 0x58 then Some (Whole (PushForm (b - 0x50)))
+    else if nat_le 0x58 b && nat_lt b 0x60 then Some (Whole (PopForm (b - 0x58)))
     else if nat_le 0x70 b && nat_lt b 0x80 then short_branch (cond_at (b - 0x70))
     else if nat_le 0xB8 b && nat_lt b 0xC0 then Some (Number (MoveNumber (b - 0xB8)))
     else single_form b
 
+-- a jump of this condition over a number
 abbrev pub near_branch : Option Cond → Option Form
 near_branch None = None
 near_branch (Some c) = Some (Number (BranchNear c))
 
+-- a byte set by this condition
 abbrev pub set_form : Option Cond → Option Form
 set_form None = None
 set_form (Some c) = Some (Operand (SetForm c))
@@ -122,4 +123,4 @@ word_form b = if b == 0x89 then Some (Operand (NarrowForm WordToOperand)) else N
 
 -- the opcodes behind F3
 abbrev pub repeated_form : ℕ → Option Form
-repeated_form b = if b == 0xA4 then Some (Whole (Str RepMovsb)) else if b == 0xAA then Some (Whole (Str RepStosb)) else None
+repeated_form b = if b == 0xA4 then Some (Whole MovsbForm) else if b == 0xAA then Some (Whole StosbForm) else None

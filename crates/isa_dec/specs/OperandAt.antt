@@ -12,6 +12,7 @@ use Rattle.isa_dec.specs.declared.operand.OperandPart.TheVariants.{Is, Cut, Wron
 abbrev pub number_at : ℕ → List ℕ → Option ℕ
 number_at at bytes = if nat_lt (length bytes) (at + 4) then None else Some (field 4 at bytes)
 
+-- the signed reading of a number, if it is there
 abbrev pub signed_number : Option ℕ → Option ℤ
 signed_number None = None
 signed_number (Some n) = Some (cast_signed w32 n)
@@ -23,10 +24,12 @@ displacement_at D8 [] = None
 displacement_at D8 (byte ∷ bytes) = Some (cast_signed w8 byte)
 displacement_at D32 bytes = signed_number (number_at 0 bytes)
 
+-- memory with the displacement, if it is there
 abbrev pub with_displacement : Option ℕ → Option (ℕ × ℕ) → Dw → Option ℤ → OperandPart
 with_displacement base index width None = Cut
 with_displacement base index width (Some d) = Is (Mem base index d width)
 
+-- memory whose displacement the bytes begin with
 abbrev pub memory_at : Option ℕ → Option (ℕ × ℕ) → Dw → List ℕ → OperandPart
 memory_at base index width bytes = with_displacement base index width (displacement_at width bytes)
 
@@ -41,10 +44,12 @@ scaled_at mode sib bytes =
     else if mode == 0 && sib % 8 == 5 then memory_at None (Some (sib / 8 % 8, sib / 64)) D32 bytes
     else memory_at (Some (sib % 8)) (Some (sib / 8 % 8, sib / 64)) (width_of mode) bytes
 
+-- memory whose SIB byte the bytes begin with
 abbrev pub behind_sib : ℕ → List ℕ → OperandPart
 behind_sib mode [] = Cut
 behind_sib mode (sib ∷ bytes) = scaled_at mode sib bytes
 
+-- the operand of a ModRM byte
 abbrev pub operand_at : ℕ → List ℕ → OperandPart
 operand_at modrm bytes =
     if modrm / 64 == 3 then Is (Reg (modrm % 8))

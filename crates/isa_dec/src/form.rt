@@ -1,11 +1,11 @@
 // What an opcode asks for.
-use isa386::{ArithOp, Cond, Ins, Narrow, Way, WidenOp};
+use isa386::{ArithOp, Cond, Narrow, Way, WidenOp};
 
 /// What an opcode says of the bytes behind it.
 #[derive(Clone, Copy)]
 pub(crate) enum Form {
     /// Nothing follows.
-    Whole(Ins),
+    Whole(WholeForm),
     /// A signed byte follows.
     Byte(ByteForm),
     /// A number of four bytes follows.
@@ -14,6 +14,20 @@ pub(crate) enum Form {
     Operand(OperandForm),
     /// A ModRM byte and what belongs to it follow, and then a number of four bytes.
     Numbered(NumberedForm),
+}
+
+#[derive(Clone, Copy)]
+pub(crate) enum WholeForm {
+    PushForm(u8),
+    PopForm(u8),
+    CltdForm,
+    RetForm,
+    LeaveForm,
+    NopForm,
+    Int3Form,
+    MovsbForm,
+    StosbForm,
+    CldForm,
 }
 
 #[derive(Clone, Copy)]

@@ -2,8 +2,8 @@
 ghost use Rattle.std.specs.Prelude.{◌≡◌, ◌<◌, ◌≤◌};
 ghost use Rattle.isa_dec.specs.OpcodeAt.{cond_at, arith_at, arith_form, single_form, one_byte, two_bytes, word_form, repeated_form};
 
-use crate::form::{ByteForm, Form, NumberForm, NumberedForm, OperandForm};
-use isa386::{ArithOp, Cond, Ins, Narrow, PlainOp, StackOp, StringOp, Way, WidenOp};
+use crate::form::{ByteForm, Form, NumberForm, NumberedForm, OperandForm, WholeForm};
+use isa386::{ArithOp, Cond, Narrow, Way, WidenOp};
 
 fn condition(code: u8) -> Option<Cond>
     ensures { result ≡ cond_at code }
@@ -69,18 +69,18 @@ fn single(b: u8) -> Option<Form>
         0x8A => Some(Form::Operand(OperandForm::NarrowForm(Narrow::ByteToRegister))),
         0x8B => Some(Form::Operand(OperandForm::MoveForm(Way::ToRegister))),
         0x8D => Some(Form::Operand(OperandForm::LeaForm)),
-        0x90 => Some(Form::Whole(Ins::Plain(PlainOp::Nop))),
-        0x99 => Some(Form::Whole(Ins::Cltd)),
-        0xC3 => Some(Form::Whole(Ins::Plain(PlainOp::Ret))),
+        0x90 => Some(Form::Whole(WholeForm::NopForm)),
+        0x99 => Some(Form::Whole(WholeForm::CltdForm)),
+        0xC3 => Some(Form::Whole(WholeForm::RetForm)),
         0xC7 => Some(Form::Numbered(NumberedForm::MoveNumbered)),
-        0xC9 => Some(Form::Whole(Ins::Plain(PlainOp::Leave))),
-        0xCC => Some(Form::Whole(Ins::Int3)),
+        0xC9 => Some(Form::Whole(WholeForm::LeaveForm)),
+        0xCC => Some(Form::Whole(WholeForm::Int3Form)),
         0xD3 => Some(Form::Operand(OperandForm::ShiftForm)),
         0xE8 => Some(Form::Number(NumberForm::CallNear)),
         0xE9 => Some(Form::Number(NumberForm::JumpNear)),
         0xEB => Some(Form::Byte(ByteForm::ShortJump)),
         0xF7 => Some(Form::Operand(OperandForm::GroupForm)),
-        0xFC => Some(Form::Whole(Ins::Str(StringOp::Cld))),
+        0xFC => Some(Form::Whole(WholeForm::CldForm)),
         0xFF => Some(Form::Operand(OperandForm::CallForm)),
         _ => None,
     }
@@ -93,9 +93,9 @@ pub(crate) fn one_byte_form(b: u8) -> Option<Form>
     if b < 0x40 {
         arithmetic_form(b)
     } else if 0x50 <= b && b < 0x58 {
-        Some(Form::Whole(Ins::Stack(StackOp::Push(b - 0x50))))
+        Some(Form::Whole(WholeForm::PushForm(b - 0x50)))
     } else if 0x58 <= b && b < 0x60 {
-        Some(Form::Whole(Ins::Stack(StackOp::Pop(b - 0x58))))
+        Some(Form::Whole(WholeForm::PopForm(b - 0x58)))
     } else if 0x70 <= b && b < 0x80 {
         match condition(b - 0x70) {
             Some(c) => Some(Form::Byte(ByteForm::ShortBranch(c))),
@@ -150,9 +150,9 @@ pub(crate) fn repeated(b: u8) -> Option<Form>
     ensures { result ≡ repeated_form b }
 {
     if b == 0xA4 {
-        Some(Form::Whole(Ins::Str(StringOp::RepMovsb)))
+        Some(Form::Whole(WholeForm::MovsbForm))
     } else if b == 0xAA {
-        Some(Form::Whole(Ins::Str(StringOp::RepStosb)))
+        Some(Form::Whole(WholeForm::StosbForm))
     } else {
         None
     }

@@ -83,6 +83,7 @@ fn scaled(mode: u8, sib: u8, bytes: &[u8]) -> OperandPart
 }
 
 // The operand that a ModRM byte and the bytes behind it spell.
+#[inline(always)]
 pub(crate) fn operand(modrm: u8, bytes: &[u8]) -> OperandPart
     ensures { result ≡ operand_at modrm bytes.now }
 {
