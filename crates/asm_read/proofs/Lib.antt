@@ -15,3 +15,10 @@ pub mod Items
 pub mod Grouping
 pub mod Whole
 pub mod Counting
+pub mod Holds
+pub mod WrittenArguments
+pub mod NormalRows
+pub mod NormalStatements
+pub mod NormalItems
+pub mod TextSteps
+pub mod TextShape

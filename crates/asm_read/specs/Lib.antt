@@ -6,6 +6,7 @@ pub mod Table
 pub mod Coded
 pub mod Stmts
 pub mod Reading
+pub mod Grammar
 pub mod Shown
 pub mod Goes
 pub mod Laws

@@ -5,8 +5,10 @@
 //! the items of a text, or the line at which it leaves the grammar.
 #![tactic(auto)]
 
-ghost use Rattle.std.specs.Prelude.{◌≡◌, ◌<◌, ℕ, length, IfOk};
+ghost use Rattle.std.specs.Prelude.{◌≡◌, ◌<◌, ℕ, length, true, IfOk};
+ghost use Rattle.asm_item.specs.Normal.{are_normal};
 ghost use Rattle.asm_read.specs.Reading as spec;
+ghost use Rattle.asm_read.specs.Grammar.{IsText, Leaves, stmts};
 
 mod arguments;
 mod keywords;
@@ -19,7 +21,10 @@ mod table;
 mod token;
 
 use asm_item::Items;
-pub use laws::{lines_are_few, lines_have_tokens, read_undoes_print};
+pub use laws::{
+    grammar_is_read, lines_are_few, lines_have_tokens, only_normal_items, others_leave,
+    read_undoes_print,
+};
 use reader::Reader;
 use std::alloc::{AllocError, AllocFailed, Global};
 use stmt_list::text_stmts;
@@ -58,12 +63,8 @@ impl<T: Drop> From<AllocFailed<T>> for AsmErr {
     }
 }
 
-/// The items of a text.
-///
-/// The text has fewer than 4294967295 lines. After [`AsmErr::NotAsm`] the line is that of the first label
-/// or statement that can't stand there after those before it, and where there is none, that of the `.def`
-/// that isn't closed.
-pub fn read(alloc: Global, text: &[u8]) -> Result<Items, AsmErr>
+// Takes statement after statement.
+fn read_stmts(alloc: Global, text: &[u8]) -> Result<Items, AsmErr>
     requires countable { length (spec.lines_of text.now) < 4294967295 }
     ensures items { IfOk result (λ items. spec.reading text.now ≡ Ok items) }
     ensures line { (n : ℕ) → result ≡ Err (AsmErr.NotAsm n) → spec.reading text.now ≡ Err n }
@@ -74,6 +75,22 @@ pub fn read(alloc: Global, text: &[u8]) -> Result<Items, AsmErr>
         reader.take(at)?;
     }
     Ok(Items::from(reader.finish()?))
+}
+
+/// The items of a text, which are normal.
+///
+/// The text has fewer than 4294967295 lines. After [`AsmErr::NotAsm`] the line is that of the first label
+/// or statement that can't stand there after those before it, and where there is none, that of the `.def`
+/// that isn't closed.
+pub fn read(alloc: Global, text: &[u8]) -> Result<Items, AsmErr>
+    requires countable { length (spec.lines_of text.now) < 4294967295 }
+    ensures items { IfOk result (λ items. spec.reading text.now ≡ Ok items) }
+    ensures grammar { IfOk result (λ items. IsText (stmts (spec.text_stmts text.now)) items) }
+    ensures normal { IfOk result (λ items. are_normal items ≡ true) }
+    ensures line { (n : ℕ) → result ≡ Err (AsmErr.NotAsm n) → spec.reading text.now ≡ Err n }
+    ensures leaves { (n : ℕ) → result ≡ Err (AsmErr.NotAsm n) → Leaves (spec.text_stmts text.now) n }
+{
+    read_stmts(alloc, text)
 }
 
 #[cfg(test)]

@@ -1,5 +1,6 @@
 use crate::{AsmErr, read};
-use asm_item::{Items, is_normal, print};
+use asm_item::{Item, Items, is_normal, print};
+use isa386::{Cond, Ins, Opnd, Target};
 use std::alloc::{AllocError, Global};
 use std::test::Fail;
 
@@ -186,6 +187,24 @@ const REFUSED: [(&[u8], u32); 24] = [
     (b"nop \"", 1),
 ];
 
+/// What stands behind `j` and `set`, and the condition that it names.
+const CONDITIONS: [(&[u8], Cond); 14] = [
+    (b"o", Cond::Overflow),
+    (b"no", Cond::NotOverflow),
+    (b"b", Cond::Below),
+    (b"ae", Cond::AboveOrEqual),
+    (b"e", Cond::Equal),
+    (b"ne", Cond::NotEqual),
+    (b"be", Cond::BelowOrEqual),
+    (b"a", Cond::Above),
+    (b"s", Cond::Sign),
+    (b"ns", Cond::NotSign),
+    (b"l", Cond::Less),
+    (b"ge", Cond::GreaterOrEqual),
+    (b"le", Cond::LessOrEqual),
+    (b"g", Cond::Greater),
+];
+
 fn few(alloc: Global, text: &[u8]) -> Result<Items, AsmErr> {
     if text.len() > 262144 {
         return Err(AsmErr::Memory);
@@ -226,6 +245,33 @@ fn rows_come_back(rt: HostRuntime) -> Result<(), Fail> {
 fn refused_texts(rt: HostRuntime) -> Result<(), Fail> {
     for (text, line) in REFUSED {
         assert_eq!(rt; refused_at(rt.alloc(), text), Some(line));
+    }
+    Ok(())
+}
+
+/// Whether `j` and `set` with this behind them are read as the jump and the byte of the condition.
+fn names_condition(alloc: Global, suffix: &[u8], condition: Cond) -> Result<bool, AllocError> {
+    let mut text = Vec::new(alloc);
+    for piece in [b"j".as_slice(), suffix, b" f; set", suffix, b" %al"] {
+        text.extend_from_slice(piece)?;
+    }
+    let Ok(items) = few(alloc, &text) else {
+        return Ok(false);
+    };
+    Ok(match items.as_slice() {
+        [Item::Code(jump, Some(label)), Item::Code(set, None)] => {
+            *jump == Ins::Branch(condition, Target::Near(0))
+                && label.name.is(b"f")
+                && *set == Ins::Set(condition, Opnd::Reg(0))
+        }
+        _ => false,
+    })
+}
+
+#[test]
+fn conditions_have_names(rt: HostRuntime) -> Result<(), Fail> {
+    for (suffix, condition) in CONDITIONS {
+        assert!(rt; names_condition(rt.alloc(), suffix, condition)?);
     }
     Ok(())
 }
