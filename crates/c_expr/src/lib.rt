@@ -45,18 +45,4 @@ pub fn what_is_spelled_is_read()
 }
 
 #[cfg(test)]
-mod tests {
-    use super::*;
-    use num_le::Name;
-    use std::test::Fail;
-
-    #[test]
-    fn a_typedef_name_is_found(rt: HostRuntime) -> Result<(), Fail> {
-        let mut defs = Typedefs::new(rt.alloc());
-        assert!(rt; !defs.has(b"word"));
-        defs.add(Name::of(rt.alloc(), b"word")?)?;
-        assert!(rt; defs.has(b"word"));
-        assert!(rt; !defs.has(b"words"));
-        Ok(())
-    }
-}
+mod tests;
