@@ -17,7 +17,7 @@ mod tally;
 mod typedefs;
 mod typename;
 
-ghost use Rattle.c_expr.specs.Laws.{IsOneReading, IsSpelled, IsRead};
+ghost use Rattle.c_expr.specs.Laws.{IsOneReading, IsSpelled, IsRead, IsNestedByBrackets, AreBracketsFew};
 
 pub use error::ParseErr;
 pub use reader::expr;
@@ -40,6 +40,21 @@ pub fn what_is_read_is_spelled()
 /// What tokens spell up to where it may end is what the reading function gives.
 pub fn what_is_spelled_is_read()
     ensures law { IsRead }
+{
+    // The law is all that is promised.
+}
+
+/// Parts and brackets of an expression stand no deeper in one another than its tree is deep and its
+/// brackets are open at once.
+pub fn nesting_is_by_brackets()
+    ensures law { IsNestedByBrackets }
+{
+    // The law is all that is promised.
+}
+
+/// In tokens at which at most 200 brackets are open, those of an expression and those before it are at most 200.
+pub fn brackets_are_few()
+    ensures law { AreBracketsFew }
 {
     // The law is all that is promised.
 }
