@@ -12,3 +12,4 @@ pub mod Told
 pub mod Walk
 pub mod Place
 pub mod Answered
+pub mod Shallow

@@ -17,7 +17,7 @@ mod tally;
 mod typedefs;
 mod typename;
 
-ghost use Rattle.c_expr.specs.Laws.{IsOneReading, IsSpelled, IsRead};
+ghost use Rattle.c_expr.specs.Laws.{IsOneReading, IsSpelled, IsRead, IsNestedByBrackets, AreBracketsFew};
 
 pub use error::ParseErr;
 pub use reader::expr;
@@ -44,19 +44,20 @@ pub fn what_is_spelled_is_read()
     // The law is all that is promised.
 }
 
-#[cfg(test)]
-mod tests {
-    use super::*;
-    use num_le::Name;
-    use std::test::Fail;
-
-    #[test]
-    fn a_typedef_name_is_found(rt: HostRuntime) -> Result<(), Fail> {
-        let mut defs = Typedefs::new(rt.alloc());
-        assert!(rt; !defs.has(b"word"));
-        defs.add(Name::of(rt.alloc(), b"word")?)?;
-        assert!(rt; defs.has(b"word"));
-        assert!(rt; !defs.has(b"words"));
-        Ok(())
-    }
+/// Parts and brackets of an expression stand no deeper in one another than its tree is deep and its
+/// brackets are open at once.
+pub fn nesting_is_by_brackets()
+    ensures law { IsNestedByBrackets }
+{
+    // The law is all that is promised.
 }
+
+/// In tokens at which at most 200 brackets are open, those of an expression and those before it are at most 200.
+pub fn brackets_are_few()
+    ensures law { AreBracketsFew }
+{
+    // The law is all that is promised.
+}
+
+#[cfg(test)]
+mod tests;
