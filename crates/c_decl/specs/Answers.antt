@@ -1,5 +1,5 @@
 -- Where a reader of tokens stands, and what its answers say.
-use Rattle.std.specs.Prelude.{◌≡◌, ◌<◌, ℕ, suc, List, [], ◌∷◌, length, drop, Option, Some, None, Result, Ok, Err}
+use Rattle.std.specs.Prelude.{◌≡◌, ◌<◌, ℕ, suc, ◌-◌, min, List, [], ◌∷◌, length, drop, Option, Some, None, Result, Ok, Err}
 use Rattle.std.specs.Borrow.{Bor}
 use Rattle.c_type.specs.Names.{Name}
 use Rattle.c_type.specs.Tokens.{Token}
@@ -7,6 +7,7 @@ use Rattle.c_lex.specs.declared.Token as l
 use Rattle.c_lex.specs.Shown.{token_of, tokens_of}
 use Rattle.c_expr.specs.declared.error.ParseErr.{ParseErr}
 use Rattle.c_expr.specs.declared.error.ParseErr.TheVariants.{TooDeep, NotC, Memory}
+use Rattle.c_expr.specs.Front.{line_at}
 use Rattle.c_expr.specs.Typedefs.{names_of}
 use Rattle.c_decl.specs.declared.reader.Reader.{Reader}
 
@@ -17,6 +18,10 @@ names r = names_of r.defs.now
 -- the tokens from the place on
 unfoldable pub rest : Reader → ℕ → List Token
 rest r at = drop at (tokens_of r.tokens.now)
+
+-- the line of the token at the place, or of the last one
+abbrev pub refused_line : Reader → ℕ → ℕ
+refused_line r at = line_at (rest r (min at (length (tokens_of r.tokens.now) - 1)))
 
 -- a tree as data, and the tokens behind it
 abbrev pub found : {X Y : Type 0} → (X → Y) → Reader → X × ℕ → Y × List Token

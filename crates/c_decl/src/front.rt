@@ -5,7 +5,7 @@ ghost use Rattle.c_tree.specs.TreeOf.{expr_of};
 ghost use Rattle.c_expr.specs.Front as f;
 ghost use Rattle.c_expr.specs.declared.error.ParseErr.{ParseErr};
 ghost use Rattle.c_lex.specs.Shown.{tokens_of};
-ghost use Rattle.c_decl.specs.Answers.{Gives, Stands, found, names, rest};
+ghost use Rattle.c_decl.specs.Answers.{Gives, Stands, found, names, refused_line, rest};
 ghost use Rattle.c_decl.specs.Expression.{expression};
 
 use crate::reader::Reader;
@@ -73,11 +73,12 @@ impl Reader<'_> {
         }
     }
 
-    /// The refusal of what stands at a place.
+    /// The refusal of what stands at a place, with its line, or behind the tokens with the line of the last one.
     pub fn refusal(&self, at: usize) -> ParseErr
-        ensures { result ≡ ParseErr.NotC (f.line_at (rest self.now at)) }
+        ensures { result ≡ ParseErr.NotC (refused_line self.now at) }
     {
-        ParseErr::NotC(self.line(at))
+        let last = self.tokens.list.len().saturating_sub(1);
+        ParseErr::NotC(self.line(at.min(last)))
     }
 
     /// The place behind the mark.
