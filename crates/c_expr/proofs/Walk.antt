@@ -23,7 +23,8 @@ use Rattle.c_lex.specs.declared.Token as code
 use Rattle.c_tree.specs.WrittenExpr.{Written, Args, Others, IsAtLevel, plain, plains, level, IsLevelled, AreLevelled, OthersLevelled, spell, spell_args, spell_others}
 use Rattle.c_tree.specs.WrittenExpr as w
 use Rattle.c_expr.specs.Ends.{nest, nests, nest_others}
-use Rattle.c_expr.specs.Brackets.{brackets, arg_brackets, other_brackets, sort_of, mark_sort, is_apart, asked_more, answered, closed, after}
+use Rattle.c_expr.specs.Brackets.{brackets, arg_brackets, other_brackets}
+use Rattle.c_expr.specs.Nesting.{sort_of, mark_sort, is_apart, asked_more, answered, closed, after}
 use Rattle.c_expr.specs.declared.brackets.Sort.{Sort}
 use Rattle.c_expr.specs.declared.brackets.Sort.TheVariants.{Opens, Closes, Comma, Question, Colon, Ends, Plain}
 use Rattle.c_expr.specs.declared.brackets.Nesting.{Nesting}

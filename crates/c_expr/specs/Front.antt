@@ -5,6 +5,7 @@ use Rattle.c_type.specs.Tokens.{Tok, Token}
 use Rattle.c_type.specs.Tokens as k
 use Rattle.c_tree.specs.WrittenType.{is_typedef}
 
+-- what follows from an option, where it is there
 infixl 10 ◌>>=◌
 abbrev pub ◌>>=◌ : {A B : Type 0} → Option A → (A → Option B) → Option B
 None >>= f = None
@@ -14,6 +15,7 @@ None >>= f = None
 abbrev pub Read : Type 0 → Type 0
 Read A = Option (A × List Token)
 
+-- whether the token is the mark
 abbrev pub is_mark : ℕ → Tok → Bool
 is_mark m (k.name x) = false
 is_mark m (k.int n long) = false
@@ -22,6 +24,7 @@ is_mark m (k.text bytes) = false
 is_mark m (k.word w) = false
 is_mark m (k.mark n) = nat_eq n m
 
+-- whether the token is the word
 abbrev pub is_word : ℕ → Tok → Bool
 is_word m (k.name x) = false
 is_word m (k.int n long) = false
@@ -40,6 +43,7 @@ abbrev pub eat_word : ℕ → List Token → Option (List Token)
 eat_word w [] = None
 eat_word w (x ∷ ts) = pick (is_word w x.kind) (Some ts) None
 
+-- the mark that the token is
 abbrev pub mark_of : List Token → Tok → Read ℕ
 mark_of ts (k.name x) = None
 mark_of ts (k.int n long) = None
@@ -53,10 +57,12 @@ abbrev pub mark_at : List Token → Read ℕ
 mark_at [] = None
 mark_at (x ∷ ts) = mark_of ts x.kind
 
+-- the line of the first token
 abbrev pub line_at : List Token → ℕ
 line_at [] = 0
 line_at (x ∷ ts) = x.line
 
+-- the name that the token is
 abbrev pub name_of : List Token → Tok → Read Name
 name_of ts (k.name x) = Some (x, ts)
 name_of ts (k.int n long) = None
@@ -78,11 +84,12 @@ name_at defs ts = any_name ts >>= λ x. pick (is_typedef defs x.0) None (Some x)
 abbrev pub grown : {A : Type 0} → (A → ℕ) → ℕ → A → List Token → Read A
 grown depth most x ts = pick (nat_lt most (depth x)) None (Some (x, ts))
 
--- what the function gives for the mark at the front
+-- with the tokens behind it
 abbrev pub paired : {A : Type 0} → List Token → Option A → Read A
 paired ts None = None
 paired ts (Some a) = Some (a, ts)
 
+-- what the function gives for the mark that the token is
 abbrev pub marked : {A : Type 0} → (ℕ → Option A) → List Token → Tok → Read A
 marked f ts (k.name x) = None
 marked f ts (k.int n long) = None
@@ -91,6 +98,7 @@ marked f ts (k.text bytes) = None
 marked f ts (k.word w) = None
 marked f ts (k.mark m) = paired ts (f m)
 
+-- what the function gives for the mark at the front
 abbrev pub front_mark : {A : Type 0} → (ℕ → Option A) → List Token → Read A
 front_mark f [] = None
 front_mark f (x ∷ ts) = marked f ts x.kind

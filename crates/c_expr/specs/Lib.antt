@@ -14,3 +14,4 @@ pub mod Part
 pub mod Types
 pub mod Brackets
 pub mod Exact
+pub mod Nesting

@@ -8,11 +8,13 @@ use Rattle.c_expr.specs.Tally.{word_of}
 use Rattle.c_expr.specs.declared.typename.Part as code
 use Rattle.c_expr.specs.declared.typename.Part.TheVariants as c
 
+-- a word, a tag or a typedef name
 pub data Part : Type 0 where
   word : (w : TypeWord) → Part
   tag : (t : TagRef) → Part
   named : (x : Name) → Part
 
+-- what is left of a part
 abbrev pub plain_part : TypePart → Part
 plain_part (word_part l w) = word w
 plain_part (tag_part l kind m x) = tag (record { line = l; kind = kind; name = x })

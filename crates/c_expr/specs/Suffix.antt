@@ -20,6 +20,7 @@ pub data Begun : Type 0 where
   arrow : (after : List Token) → Begun
   step : (op : StepOp) (after : List Token) → Begun
 
+-- what the code reads
 abbrev pub begun_of : Suffix → Begun
 begun_of (Call x) = call (left x)
 begun_of (Index x) = index (left x)
@@ -27,6 +28,7 @@ begun_of (Member x) = member (left x)
 begun_of (Arrow x) = arrow (left x)
 begun_of (Step op x) = step op (left x)
 
+-- the first of the suffixes that is there
 abbrev pub begun_by : Option (List Token) → Option (List Token) → Option (List Token) → Option (List Token) → Read StepOp → Option Begun
 begun_by (Some after) _ _ _ _ = Some (call after)
 begun_by None (Some after) _ _ _ = Some (index after)

@@ -17,11 +17,13 @@ word_of c.Long = w.Long
 word_of c.Int = w.Int
 word_of c.Void = w.Void
 
+-- how often, with one more
 abbrev pub once_more : Count → Count
 once_more Never = Once
 once_more Once = Twice
 once_more Twice = Twice
 
+-- no word
 abbrev pub no_words : Tally
 no_words = record { unsigned = Never; char = Never; short = Never; long = Never; int = Never; void = Never }
 

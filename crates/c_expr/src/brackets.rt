@@ -4,11 +4,13 @@ ghost use Rattle.c_type.specs.Names.{Name};
 ghost use Rattle.c_type.specs.Tokens as k;
 ghost use Rattle.c_tree.specs.WrittenExpr as w;
 ghost use Rattle.c_lex.specs.Shown.{tok_of};
-ghost use Rattle.c_expr.specs.Brackets.{brackets, sort_of, after};
+ghost use Rattle.c_expr.specs.Brackets.{brackets};
+ghost use Rattle.c_expr.specs.Nesting.{sort_of, after};
 ghost use Rattle.c_expr.specs.Shown.{left};
 
 use crate::places::{
-    CLOSE_ROUND, CLOSE_SQUARE, COLON, COMMA, OPEN_ROUND, OPEN_SQUARE, QUESTION, SIZEOF,
+    CLOSE_BRACE, CLOSE_ROUND, CLOSE_SQUARE, COLON, COMMA, OPEN_BRACE, OPEN_ROUND, OPEN_SQUARE,
+    QUESTION, SEMICOLON, SIZEOF,
 };
 use crate::rest::Rest;
 use c_lex::Tok;
@@ -46,8 +48,7 @@ fn mark_sort(mark: u8) -> Sort
         COMMA => Sort::Comma,
         QUESTION => Sort::Question,
         COLON => Sort::Colon,
-        // `{`, `}` and `;`
-        25 | 26 | 29 => Sort::Ends,
+        OPEN_BRACE | CLOSE_BRACE | SEMICOLON => Sort::Ends,
         _ => Sort::Plain,
     }
 }

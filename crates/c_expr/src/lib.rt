@@ -1,7 +1,7 @@
 //! Expressions of sixteen levels: from tokens to their tree.
 //!
-//! Between the spellings of a tree and a reader of tokens stands a reading function on lists of tokens.
-//! Three laws join them, each the contract of a function that does nothing.
+//! Between the spellings of a tree and the readers of tokens stands a reading function on lists of tokens.
+//! Laws join them, each the contract of a function that does nothing.
 #![tactic(auto)]
 
 mod brackets;

@@ -14,6 +14,7 @@ ghost use Rattle.c_expr.specs.Typedefs.{names_of};
 use crate::brackets::brackets;
 use crate::error::ParseErr;
 use crate::nodes::MAX_DEPTH;
+use crate::places::{CLOSE_BRACE, CLOSE_ROUND, CLOSE_SQUARE, COLON, COMMA, SEMICOLON};
 use crate::rest::{Found, Rest};
 use crate::typedefs::Typedefs;
 use c_lex::{Tok, Token, Tokens};
@@ -42,10 +43,8 @@ fn may_follow(level: u8, rest: Rest<'_>) -> bool
         return false;
     };
     match *mark {
-        // `)`, `]`, `;` and `:`
-        22 | 24 | 29 | 30 => true,
-        // `}` and `,`
-        26 | 28 => level == 2 || level == 3,
+        CLOSE_ROUND | CLOSE_SQUARE | SEMICOLON | COLON => true,
+        CLOSE_BRACE | COMMA => level == 2 || level == 3,
         _ => false,
     }
 }
