@@ -1,3 +1,4 @@
+pub mod Indexed
 pub mod Taken
 pub mod Fronts
 pub mod Takes

@@ -3,6 +3,6 @@ use Rattle.std.specs.Prelude.{List}
 use Rattle.c_type.specs.Names.{Name}
 use Rattle.c_expr.specs.declared.typedefs.Typedefs.{Typedefs}
 
--- the names of the set
+-- the names of the set, in the order in which they were added
 abbrev pub names_of : Typedefs → List Name
 names_of d = d.list.items
