@@ -18,3 +18,7 @@ pub mod Leaving
 pub mod MainRuns
 pub mod Plain
 pub mod Emitted
+pub mod Laying
+pub mod Coded
+pub mod Weighed
+pub mod WholeRuns

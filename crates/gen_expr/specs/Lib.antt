@@ -10,3 +10,6 @@ pub mod Flows
 pub mod Emitted
 pub mod Laws
 pub mod Mains
+pub mod Forms
+pub mod Laid
+pub mod Whole

@@ -6,6 +6,6 @@ mod operands;
 
 pub use laws::{
     bytes_stand, end_is_exit, expressions_reach, ghosts_can_go, mains_reach, statements_reach,
-    stop_is_turn,
+    stop_is_turn, whole_ends, whole_stops,
 };
 pub use operands::{below, load, store};
