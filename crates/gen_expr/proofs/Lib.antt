@@ -22,3 +22,8 @@ pub mod Laying
 pub mod Coded
 pub mod Weighed
 pub mod WholeRuns
+pub mod IntSites
+pub mod Parts
+pub mod StmtParts
+pub mod SameCode
+pub mod Emitting

@@ -13,3 +13,5 @@ pub mod Mains
 pub mod Forms
 pub mod Laid
 pub mod Whole
+pub mod Listed
+pub mod Placing
