@@ -42,7 +42,7 @@ pub rounded_ints : (c : Context) (as_ : List Auto) → AllInt as_ → rounded c 
 rounded_ints c [] all = refl
 rounded_ints c (a ∷ as_) all = ap (λ z. z + rounded c as_) (four c a.ty all.0) ∙ ap (λ z. 4 + z) (rounded_ints c as_ all.1) ∙ omega arith
 
-rounded_take : (c : Context) (as_ : List Auto) (i : ℕ) → AllInt as_ → i < length as_ → rounded c (take (suc i) as_) ≡ 4 * suc i
+pub rounded_take : (c : Context) (as_ : List Auto) (i : ℕ) → AllInt as_ → i < length as_ → rounded c (take (suc i) as_) ≡ 4 * suc i
 rounded_take c [] i all lt = absurd (omega arith)
 rounded_take c (a ∷ as_) zero all lt = ap (λ z. z + 0) (four c a.ty all.0)
 rounded_take c (a ∷ as_) (suc i) all lt = ap (λ z. z + rounded c (take (suc i) as_)) (four c a.ty all.0) ∙ ap (λ z. 4 + z) (rounded_take c as_ i all.1 (omega arith)) ∙ omega arith

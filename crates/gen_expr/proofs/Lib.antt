@@ -18,3 +18,12 @@ pub mod Leaving
 pub mod MainRuns
 pub mod Plain
 pub mod Emitted
+pub mod Laying
+pub mod Coded
+pub mod Weighed
+pub mod WholeRuns
+pub mod IntSites
+pub mod Parts
+pub mod StmtParts
+pub mod SameCode
+pub mod Emitting

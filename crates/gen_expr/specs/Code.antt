@@ -72,6 +72,13 @@ operator Add = Op (ArithTo arith.Add 1 (Reg 0)) ∷ []
 operator Sub = Op (ArithTo arith.Sub 1 (Reg 0)) ∷ []
 operator _ = []
 
+-- a left operand is kept in temporary d, and comes back behind the right one to be joined with it
+abbrev pub kept : Site → ℕ → Item
+kept t d = Op (Move ToOperand 0 (below (temp_depth t d)))
+
+abbrev pub joined : Site → ℕ → TBinary → List Item
+joined t d op = Op (Move ToOperand 0 (Reg 1)) ∷ Op (Move ToRegister 0 (below (temp_depth t d))) ∷ operator op
+
 -- write(1, the lowest byte of %eax, 1) over the stack; %eax becomes that byte
 abbrev pub put_code : List Item
 put_code =
@@ -93,8 +100,7 @@ abbrev pub expr_code : Site → TExpr → ℕ → List Item
 expr_code t (name ty r) d = load_from (named t r)
 expr_code t (int ty n) d = Op (MoveImm (Register 0) (n % 4294967296)) ∷ []
 expr_code t (convert ty e) d = expr_code t e d
-expr_code t (binary ty op a b) d =
-    expr_code t a d ++ (Op (Move ToOperand 0 (below (temp_depth t d))) ∷ (expr_code t b (suc d) ++ (Op (Move ToOperand 0 (Reg 1)) ∷ Op (Move ToRegister 0 (below (temp_depth t d))) ∷ operator op)))
+expr_code t (binary ty op a b) d = expr_code t a d ++ (kept t d ∷ (expr_code t b (suc d) ++ joined t d op))
 expr_code t (assign ty a b) d = expr_code t b d ++ store_to (target_of t a)
 expr_code t (call ty f (more_args e no_args)) d = pick (is_putchar f) (expr_code t e d ++ put_code) []
 expr_code t _ d = []
@@ -104,11 +110,18 @@ abbrev pub value_code : Site → Option TExpr → List Item
 value_code t None = []
 value_code t (Some e) = expr_code t e 0
 
+-- a loop is left where its test is 0, and goes on with its test behind its body
+abbrev pub tested : ℕ → ℕ → List Item
+tested f k = Op (Test 0 (Reg 0)) ∷ If Equal (End f k) ∷ []
+
+abbrev pub again : ℕ → ℕ → List Item
+again f k = Goto (Top f k) ∷ Label (End f k) ∷ []
+
 abbrev mutual
   pub stmt_code : Site → TStmt → List Item
   stmt_code t (expr k l e) = Start k ∷ expr_code t e 0
   stmt_code t (while_ k l e body) =
-      Label (Top t.fun k) ∷ Start k ∷ (expr_code t e 0 ++ (Op (Test 0 (Reg 0)) ∷ If Equal (End t.fun k) ∷ (stmt_code t body ++ (Goto (Top t.fun k) ∷ Label (End t.fun k) ∷ []))))
+      Label (Top t.fun k) ∷ Start k ∷ (expr_code t e 0 ++ (tested t.fun k ++ (stmt_code t body ++ again t.fun k)))
   stmt_code t (return_ k l e) = Start k ∷ (value_code t e ++ (Goto (Close t.fun) ∷ []))
   stmt_code t (block line ds ss close_line) = stmts_code t ss
   stmt_code t _ = []
@@ -123,10 +136,18 @@ zero_code q zero = []
 zero_code q (suc n) =
     Op (Lea 7 (below q)) ∷ Op (MoveImm (Register 1) (suc n)) ∷ Op (MoveImm (Register 0) 0) ∷ Op (Str RepStosb) ∷ []
 
+-- function f makes a frame of so many bytes
+abbrev pub entered : (f size : ℕ) → List Item
+entered f size = Label (Entry (Body f)) ∷ Op (Stack (Push 5)) ∷ Op (Move ToOperand 4 (Reg 5)) ∷ Op (ArithImm arith.Sub (Reg 4) size) ∷ []
+
+-- it gives 0 where it comes to its end, and leaves its frame at the start k of its closing brace
+abbrev pub closed : (f k : ℕ) → List Item
+closed f k = Op (MoveImm (Register 0) 0) ∷ Label (Close f) ∷ Start k ∷ Op (Plain Leave) ∷ Op (Plain Ret) ∷ []
+
 -- a function: its frame is made, its automatic objects become zero, and its value is in %eax when it closes
 abbrev pub func_code : Site → List Item
 func_code t =
-    Label (Entry (Body t.fun)) ∷ Op (Stack (Push 5)) ∷ Op (Move ToOperand 4 (Reg 5)) ∷ Op (ArithImm arith.Sub (Reg 4) (frame_of (inside t) t.body.func)) ∷ (zero_code (locals_size t) (locals_size t) ++ (Open t.body.func.open_ ∷ (stmts_code t t.body.func.stmts ++ (Op (MoveImm (Register 0) 0) ∷ Label (Close t.fun) ∷ Start t.body.func.close ∷ Op (Plain Leave) ∷ Op (Plain Ret) ∷ []))))
+    entered t.fun (frame_of (inside t) t.body.func) ++ (zero_code (locals_size t) (locals_size t) ++ (Open t.body.func.open_ ∷ (stmts_code t t.body.func.stmts ++ closed t.fun t.body.func.close)))
 
 -- main is called, and its value is the status
 abbrev pub start_code : ℕ → List Item

@@ -10,3 +10,8 @@ pub mod Flows
 pub mod Emitted
 pub mod Laws
 pub mod Mains
+pub mod Forms
+pub mod Laid
+pub mod Whole
+pub mod Listed
+pub mod Placing

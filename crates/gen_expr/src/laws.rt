@@ -1,5 +1,6 @@
 // Laws of the code that is made for the small form.
 ghost use Rattle.gen_expr.specs.Laws.{GhostsCanGo, ExpressionsReach, StatementsReach, MainsReach, ExitsAlike, StopsAlike, BytesStand};
+ghost use Rattle.gen_expr.specs.Whole.{WholeEnds, WholeStops};
 
 /// The machine with what the proof follows beside it goes as the machine alone.
 pub fn ghosts_can_go()
@@ -46,6 +47,21 @@ pub fn stop_is_turn()
 /// Code stands where its bytes are.
 pub fn bytes_stand()
     ensures law { BytesStand }
+{
+    // The law is all that is promised.
+}
+
+/// Where a run of a program of the small form ends, the process over its text exits with the run's
+/// status and has its output.
+pub fn whole_ends()
+    ensures law { WholeEnds }
+{
+    // The law is all that is promised.
+}
+
+/// Where such a run is stopped at a turn, the process comes to that turn with the run's output.
+pub fn whole_stops()
+    ensures law { WholeStops }
 {
     // The law is all that is promised.
 }
