@@ -64,13 +64,7 @@ fn sign(e: &Expr) -> &'static [u8] {
         Expr::Post(_, StepOp::Inc, _) => b"post++ ",
         Expr::Post(..) => b"post-- ",
         Expr::Name(..) => b"",
-        Expr::Int(_, _, long) => {
-            if *long {
-                b"1l"
-            } else {
-                b"1"
-            }
-        }
+        Expr::Int(_, _, long) => { if *long { b"1l" } else { b"1" } }
         Expr::Chr(..) => b"'",
         Expr::Text(..) => b"\"",
     }
@@ -108,13 +102,7 @@ fn show(e: &Expr, out: &mut Vec<u8>) -> Result<(), AllocError> {
 }
 
 /// Checks the signs of the expression, and that it goes up to the last token.
-fn check(
-    rt: &impl Abort,
-    alloc: Global,
-    text: &[u8],
-    level: u8,
-    signs: &[u8],
-) -> Result<(), Fail> {
+fn check(rt: &impl Abort, alloc: Global, text: &[u8], level: u8, signs: &[u8]) -> Result<(), Fail> {
     let (tree, _) = read(alloc, text, level)?;
     let mut out = Vec::new(alloc);
     show(&tree, &mut out)?;
