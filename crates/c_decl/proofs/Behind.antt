@@ -21,19 +21,19 @@ use Rattle.c_decl.specs.Expression.{expression}
 use Rattle.c_decl.proofs.Expressions.{expr_again, expr_takes, expr_ends}
 
 -- the others are those from a place on
-abbrev Behind : List Token → List Token → Type 0
+abbrev pub Behind : List Token → List Token → Type 0
 Behind ts after = (n : ℕ) × (drop n ts ≡ after)
 
-here : (ts : List Token) → Behind ts ts
+pub here : (ts : List Token) → Behind ts ts
 here ts = (0, refl)
 
-next : (x : Token) (ts after : List Token) → Behind ts after → Behind (x ∷ ts) after
+pub next : (x : Token) (ts after : List Token) → Behind ts after → Behind (x ∷ ts) after
 next x ts after b = (suc b.0, b.1)
 
-beyond : (ts us after : List Token) → Behind ts us → Behind us after → Behind ts after
+pub beyond : (ts us after : List Token) → Behind ts us → Behind us after → Behind ts after
 beyond ts us after a b = (a.0 + b.0, sym (drop-drop b.0 a.0 ts) ∙ ap (drop b.0) a.1 ∙ b.1)
 
-part_behind : (p : TypePart) (ts : List Token) → Behind (spell_part p ts) ts
+pub part_behind : (p : TypePart) (ts : List Token) → Behind (spell_part p ts) ts
 part_behind (word_part l v) ts = next _ ts ts (here ts)
 part_behind (tag_part l kind m x) ts = next _ _ ts (next _ ts ts (here ts))
 part_behind (name_part l x) ts = next _ ts ts (here ts)
@@ -50,7 +50,7 @@ name_behind : (y : WrittenName) (ts : List Token) → Behind (spell_name y ts) t
 name_behind y ts = beyond (spell_name y ts) (spell_stars y.stars ts) ts (parts_behind y.parts (spell_stars y.stars ts)) (stars_behind y.stars ts)
 
 mutual
-  expr_behind : (e : Written) (ts : List Token) → Behind (w.spell e ts) ts
+  pub expr_behind : (e : Written) (ts : List Token) → Behind (w.spell e ts) ts
   expr_behind (w.comma a l b) ts = beyond _ (mark l comma_mark ∷ w.spell b ts) ts (expr_behind a _) (next _ (w.spell b ts) ts (expr_behind b ts))
   expr_behind (w.assign a l op b) ts = beyond _ (mark l (assign_mark op) ∷ w.spell b ts) ts (expr_behind a _) (next _ (w.spell b ts) ts (expr_behind b ts))
   expr_behind (w.choice a l b m c) ts =
@@ -89,7 +89,7 @@ expression_given defs l at ts e k low high is =
     ap (expression defs l) s.tokens ∙ expr_again defs l s.written (drop k ts) low high s.levelled (rw s.plain_is is.low) is.follows ∙ ap (λ y. Some (y, drop k ts)) s.plain_is
 
 -- what is behind a place is behind one within the tokens
-within : (m : ℕ) (ts : List Token) → (k : ℕ) × (k ≤ length ts) × (drop k ts ≡ drop m ts)
+pub within : (m : ℕ) (ts : List Token) → (k : ℕ) × (k ≤ length ts) × (drop k ts ≡ drop m ts)
 within zero ts = (0, omega arith, refl)
 within (suc m) [] = (0, omega arith, refl)
 within (suc m) (x ∷ ts) = let p = within m ts in (suc p.0, omega (arith, p.1), p.2)

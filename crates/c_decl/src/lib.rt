@@ -22,8 +22,13 @@ mod types;
 mod words;
 
 use c_tree::{Declr, Ext, FileSpecs, ParDecl};
+pub use depth::{
+    MAX_DEPTH, declr_exceeds, declrs_exceed, expr_exceeds, items_exceed, local_exceeds,
+    optional_types_exceed, pars_exceed, tag_exceeds,
+};
 pub use names::{declared_name, declares_function};
 pub use places::{external, local};
+pub use reader::Reader;
 
 /// The parts of a function but for its block, with the line of its first token, counted from 1.
 #[derive(Drop)]

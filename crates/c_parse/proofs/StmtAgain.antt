@@ -21,7 +21,7 @@ use Rattle.c_tree.specs.Reads.{may_follow}
 use Rattle.c_expr.specs.Front.{Read, eat, eat_word, line_at}
 use Rattle.c_decl.specs.ReadSpecs.{start_of, start_at, word_start}
 use Rattle.c_decl.specs.ReadSpecs as s
-use Rattle.c_expr.proofs.Fronts.{grown_again, other, is_start_mark, is_sizeof, starts, expr_starts, no_mark, no_word, line_first, expr_longer}
+use Rattle.c_expr.proofs.Fronts.{other, is_start_mark, is_sizeof, starts, expr_starts, no_mark, no_word, line_first, expr_longer}
 use Rattle.c_expr.proofs.Fronts as f
 use Rattle.c_decl.proofs.SpecsAgain.{storage_start, typed_start, tag_start}
 use Rattle.c_decl.proofs.DeclAgain.{local_again, local_longer}
@@ -230,7 +230,7 @@ module _ (defs : List Name) (most : ℕ) (expr : ℕ → List Token → Read Exp
       let begins : starts defs (y ∷ ts) ≡ true = ap (starts defs) (sym same) ∙ expr_starts defs e (mark n semicolon ∷ after) ok.1 in
       let line : y.line ≡ w.first e = ap line_at (sym same) ∙ line_first e (mark n semicolon ∷ after) in
       let found : expr 1 (y ∷ ts) ≡ Some (w.plain e, mark n semicolon ∷ after) = ap (expr 1) (sym same) ∙ expr_again 1 e (mark n semicolon ∷ after) (omega arith) (omega arith) ok (omega arith) refl in
-      rw (form_is defs y.kind begins, found, line, grown_again stmt_depth most (t.expr (w.first e) (w.plain e)) after low) refl
+      rw (form_is defs y.kind begins, found, line) refl
 
   module _ (n : ℕ) (inner : List Token → Read Stmt)
       (inner_again : (q : WrittenStmt) (after : List Token) → IsStmt defs q → stmt_depth (plain_stmt q) ≤ n → stmt_depth (plain_stmt q) ≤ most → Ends q after → inner (spell_stmt q after) ≡ Some (plain_stmt q, after)) where
@@ -249,11 +249,11 @@ module _ (defs : List Name) (most : ℕ) (expr : ℕ → List Token → Read Exp
     item_again : (q : WrittenItem) (after : List Token) → IsItem defs q → item_depth (plain_item q) ≤ n → item_depth (plain_item q) ≤ most → eat_word else_word after ≡ None
         → r.item defs most expr inner (spell_item q after) ≡ Some (plain_item q, after)
     item_again (z.case l1 e m) after ok small low none =
-        rw (expr_again 1 e (mark m colon ∷ after) (omega arith) (omega arith) ok (omega arith) refl, grown_again item_depth most (plain_item (z.case l1 e m)) after low) refl
-    item_again (z.default l1 m) after ok small low none = rw (grown_again item_depth most (plain_item (z.default l1 m)) after low) refl
+        rw (expr_again 1 e (mark m colon ∷ after) (omega arith) (omega arith) ok (omega arith) refl) refl
+    item_again (z.default l1 m) after ok small low none = refl
     item_again (z.stmt q) after ok small low none =
         let first = stmt_first defs q after ok in
-        rw (first.3, first.4, inner_again q after ok (omega arith) (omega arith) (λ _. none), grown_again item_depth most (plain_item (z.stmt q)) after low) refl
+        rw (first.3, first.4, inner_again q after ok (omega arith) (omega arith) (λ _. none)) refl
 
     items_again : (j : ℕ) (qs : WrittenItems) (m : ℕ) (after : List Token) → AreItems defs qs → items_depth (plain_items qs) ≤ n → items_depth (plain_items qs) ≤ most → item_count qs < j
         → r.items defs most expr inner j (spell_items qs (mark m close_brace ∷ after)) ≡ Some (plain_items qs, mark m close_brace ∷ after)
@@ -281,28 +281,25 @@ module _ (defs : List Name) (most : ℕ) (expr : ℕ → List Token → Read Exp
     stmt_at_again : (q : WrittenStmt) (after : List Token) → IsStmt defs q → stmt_depth (plain_stmt q) ≤ suc n → stmt_depth (plain_stmt q) ≤ most → Ends q after
         → r.stmt_at defs most expr inner (spell_stmt q after) ≡ Some (plain_stmt q, after)
     stmt_at_again (z.expr e l1) after ok small low ends = expr_stmt_by inner e l1 after (w.spell e (mark l1 semicolon ∷ after)) refl ok low
-    stmt_at_again (z.empty l1) after ok small low ends = rw (grown_again stmt_depth most (t.empty l1) after low) refl
+    stmt_at_again (z.empty l1) after ok small low ends = refl
     stmt_at_again (z.if_only l1 m e o q) after ok small low ends =
         rw (
           test_again m e o (spell_stmt q after) ok.0 (omega arith),
           inner_again q after ok.1 (omega arith) (omega arith) (λ _. ends refl),
           ends refl,
-          grown_again stmt_depth most (plain_stmt (z.if_only l1 m e o q)) after low,
         ) refl
     stmt_at_again (z.if_else l1 m e o q v u) after ok small low ends =
         rw (
           test_again m e o (spell_stmt q (word v else_word ∷ spell_stmt u after)) ok.1 (omega arith),
           inner_again q (word v else_word ∷ spell_stmt u after) ok.2 (omega arith) (omega arith) (closed q (word v else_word ∷ spell_stmt u after) ok.0),
           inner_again u after ok.3 (omega arith) (omega arith) ends,
-          grown_again stmt_depth most (plain_stmt (z.if_else l1 m e o q v u)) after low,
         ) refl
     stmt_at_again (z.while l1 m e o q) after ok small low ends =
-        rw (test_again m e o (spell_stmt q after) ok.0 (omega arith), inner_again q after ok.1 (omega arith) (omega arith) ends, grown_again stmt_depth most (plain_stmt (z.while l1 m e o q)) after low) refl
+        rw (test_again m e o (spell_stmt q after) ok.0 (omega arith), inner_again q after ok.1 (omega arith) (omega arith) ends) refl
     stmt_at_again (z.do_while l1 q m o e u v) after ok small low ends =
         rw (
           inner_again q (word m while_word ∷ mark o open_round ∷ w.spell e (mark u close_round ∷ mark v semicolon ∷ after)) ok.0 (omega arith) (omega arith) (λ _. refl),
           test_again o e u (mark v semicolon ∷ after) ok.1 (omega arith),
-          grown_again stmt_depth most (plain_stmt (z.do_while l1 q m o e u v)) after low,
         ) refl
     stmt_at_again (z.for l1 m e1 o e2 u e3 v q) after ok small low ends =
         rw (
@@ -310,21 +307,19 @@ module _ (defs : List Name) (most : ℕ) (expr : ℕ → List Token → Read Exp
           semicolon_again e2 u (spell_if w.spell e3 (mark v close_round ∷ spell_stmt q after)) ok.1 (omega arith),
           bracket_again e3 v (spell_stmt q after) ok.2 (omega arith),
           inner_again q after ok.3 (omega arith) (omega arith) ends,
-          grown_again stmt_depth most (plain_stmt (z.for l1 m e1 o e2 u e3 v q)) after low,
         ) refl
     stmt_at_again (z.switch l1 m e o u qs v) after ok small low ends =
         let room = items_longer qs (mark v close_brace ∷ after) in
         rw (
           test_again m e o (mark u open_brace ∷ spell_items qs (mark v close_brace ∷ after)) ok.0 (omega arith),
           items_again (suc (length (spell_items qs (mark v close_brace ∷ after)))) qs v after ok.1 (omega arith) (omega arith) (omega (arith, room)),
-          grown_again stmt_depth most (plain_stmt (z.switch l1 m e o u qs v)) after low,
         ) refl
-    stmt_at_again (z.break l1 m) after ok small low ends = rw (grown_again stmt_depth most (t.break l1) after low) refl
-    stmt_at_again (z.continue l1 m) after ok small low ends = rw (grown_again stmt_depth most (t.continue l1) after low) refl
+    stmt_at_again (z.break l1 m) after ok small low ends = refl
+    stmt_at_again (z.continue l1 m) after ok small low ends = refl
     stmt_at_again (z.return l1 e m) after ok small low ends =
-        rw (semicolon_again e m after ok (omega arith), grown_again stmt_depth most (plain_stmt (z.return l1 e m)) after low) refl
+        rw (semicolon_again e m after ok (omega arith)) refl
     stmt_at_again (z.block l1 ds qs m) after ok small low ends =
-        rw (block_again l1 ds qs m after ok.0 ok.1 (omega arith) (omega arith) (omega arith), grown_again stmt_depth most (plain_stmt (z.block l1 ds qs m)) after low) refl
+        rw (block_again l1 ds qs m after ok.0 ok.1 (omega arith) (omega arith) (omega arith)) refl
 
   pub stmt_again : (n : ℕ) (q : WrittenStmt) (after : List Token) → IsStmt defs q → stmt_depth (plain_stmt q) ≤ n → stmt_depth (plain_stmt q) ≤ most → Ends q after
       → r.stmt defs most expr n (spell_stmt q after) ≡ Some (plain_stmt q, after)

@@ -7,7 +7,7 @@ use Rattle.c_type.specs.Tokens as k
 use Rattle.c_tree.specs.Words.{tok, mark, word, if_word, while_word, do_word, for_word, switch_word, break_word, continue_word, return_word, case_word, default_word, else_word, open_round, close_round, open_brace, close_brace, semicolon, colon}
 use Rattle.c_tree.specs.TreeExpr.{Expr, expr_depth}
 use Rattle.c_tree.specs.TreeDecl.{LocalDecl}
-use Rattle.c_tree.specs.TreeStmt.{Stmt, Stmts, SwItem, SwItems, Block, stmt_depth, item_depth}
+use Rattle.c_tree.specs.TreeStmt.{Stmt, Stmts, SwItem, SwItems, Block}
 use Rattle.c_tree.specs.TreeStmt as t
 use Rattle.c_tree.specs.WrittenExpr.{Written, IsAtLevel}
 use Rattle.c_tree.specs.WrittenExpr as w
@@ -16,12 +16,11 @@ use Rattle.c_tree.specs.WrittenDecl.{WrittenLocal, plain_local, spell_local}
 use Rattle.c_tree.specs.WrittenStmt.{WrittenStmt, WrittenStmts, WrittenItem, WrittenItems, plain_stmt, plain_stmts, plain_item, plain_items, is_open, AreLocals, IsStmt, AreStmts, IsItem, AreItems, spell_locals, spell_stmt, spell_stmts, spell_item, spell_items}
 use Rattle.c_tree.specs.WrittenStmt as z
 use Rattle.c_tree.specs.Reads.{Spells}
-use Rattle.c_expr.specs.Front.{Read, ◌>>=◌, eat, eat_word, line_at, grown}
+use Rattle.c_expr.specs.Front.{Read, ◌>>=◌, eat, eat_word, line_at}
 use Rattle.c_decl.specs.ReadSpecs.{start_at}
 use Rattle.c_decl.specs.ReadDecl as d
 use Rattle.c_expr.proofs.Fronts.{line_first}
 use Rattle.c_expr.proofs.Taken.{some_is, bind_some, eat_takes, word_takes}
-use Rattle.c_decl.proofs.SeparatedTakes.{grown_takes}
 use Rattle.c_decl.proofs.DeclTakes.{local_takes}
 use Rattle.c_parse.specs.ReadStmt.{Form, form_of, word_form}
 use Rattle.c_parse.specs.ReadStmt as r
@@ -224,36 +223,33 @@ module _ (defs : List Name) (most : ℕ) (positive : 1 ≤ most) (expr : ℕ →
     item_takes : (ts : List Token) (o u : Option (List Token)) (y : SwItem × List Token) → eat_word case_word ts ≡ o → eat_word default_word ts ≡ u → r.item_by defs most expr inner ts o u ≡ Some y → ItemTaken ts y.0 y.1
     item_takes ts (Some after) u y at at1 is =
         let f = word_takes case_word ts after at in
-        let b = bind_some (expr 1 after) (λ e. eat colon e.1 >>= λ rest. grown item_depth most (t.case (line_at ts) e.0) rest) y is in
+        let b = bind_some (expr 1 after) (λ e. eat colon e.1 >>= λ rest. Some (t.case (line_at ts) e.0, rest)) y is in
         let e = (expr_takes 1 after b.0 (omega arith) (omega arith) b.1).0 in
-        let c = bind_some (eat colon b.0.1) (λ rest. grown item_depth most (t.case (line_at ts) b.0.0) rest) y b.2 in
+        let c = bind_some (eat colon b.0.1) (λ rest. Some (t.case (line_at ts) b.0.0, rest)) y b.2 in
         let m = eat_takes colon b.0.1 c.0 c.1 in
-        let g = grown_takes item_depth most (t.case (line_at ts) b.0.0) c.0 y c.2 in
         let read : ItemTaken ts (t.case (line_at ts) b.0.0) c.0 = record {
           written = z.case f.0 e.written m.0;
           levelled = e.levelled;
           plain_is = ap (λ j. t.case j (w.plain e.written)) (sym f.1) ∙ ap (t.case (line_at ts)) e.plain_is;
           tokens = f.2 ∙ ap (λ v. word f.0 case_word ∷ v) (e.tokens ∙ ap (w.spell e.written) m.2);
         } in
-        rw (← g.0) read
+        rw (← some_is c.2) read
     item_takes ts None (Some after) y at at1 is =
         let f = word_takes default_word ts after at1 in
-        let c = bind_some (eat colon after) (λ rest. grown item_depth most (t.default (line_at ts)) rest) y is in
+        let c = bind_some (eat colon after) (λ rest. Some (t.default (line_at ts), rest)) y is in
         let m = eat_takes colon after c.0 c.1 in
-        let g = grown_takes item_depth most (t.default (line_at ts)) c.0 y c.2 in
         let read : ItemTaken ts (t.default (line_at ts)) c.0 = record {
           written = z.default f.0 m.0;
           levelled = tt;
           plain_is = ap t.default (sym f.1);
           tokens = f.2 ∙ ap (λ v. word f.0 default_word ∷ v) m.2;
         } in
-        rw (← g.0) read
+        rw (← some_is c.2) read
     item_takes ts None None y at at1 is =
-        let b = bind_some (inner ts) (λ x. grown item_depth most (t.stmt x.0) x.1) y is in
+        let b = bind_some (inner ts) (λ x. Some (t.stmt x.0, x.1)) y is in
         let q = inner_takes ts b.0 b.1 in
-        let g = grown_takes item_depth most (t.stmt b.0.0) b.0.1 y b.2 in
         let read : ItemTaken ts (t.stmt b.0.0) b.0.1 = record { written = z.stmt q.written; levelled = q.levelled; plain_is = ap t.stmt q.plain_is; tokens = q.tokens } in
-        rw (← g.0) read
+        rw (← some_is b.2) read
 
     record ItemsTaken (ts : List Token) (qs : SwItems) (after : List Token) : Type 0 where
       written : WrittenItems
@@ -316,7 +312,6 @@ module _ (defs : List Name) (most : ℕ) (positive : 1 ≤ most) (expr : ℕ →
     else_takes : (start ts : List Token) (l m : ℕ) (e : Written) (o : ℕ) (q : WrittenStmt) (e1 : Expr) (q1 : Stmt) (u : Option (List Token)) (y : Stmt × List Token) → IsAtLevel defs 1 e → IsStmt defs q → w.plain e ≡ e1 → plain_stmt q ≡ q1
         → start ≡ word l if_word ∷ mark m open_round ∷ w.spell e (mark o close_round ∷ spell_stmt q ts) → Ends q ts → eat_word else_word ts ≡ u → r.else_by defs most expr inner l e1 q1 ts u ≡ Some y → StmtTaken start y.0 y.1
     else_takes start ts l m e o q e1 q1 None y is_expr is_stmt expr_is stmt_is tokens ends at is =
-        let g = grown_takes stmt_depth most (t.if_only l e1 q1) ts y is in
         let read : StmtTaken start (t.if_only l e1 q1) ts = record {
           written = z.if_only l m e o q;
           levelled = (is_expr, is_stmt);
@@ -324,12 +319,11 @@ module _ (defs : List Name) (most : ℕ) (positive : 1 ≤ most) (expr : ℕ →
           tokens = tokens;
           ends = λ _. at;
         } in
-        rw (← g.0) read
+        rw (← some_is is) read
     else_takes start ts l m e o q e1 q1 (Some after) y is_expr is_stmt expr_is stmt_is tokens ends at is =
         let f = word_takes else_word ts after at in
-        let b = bind_some (inner after) (λ v. grown stmt_depth most (t.if_else l e1 q1 v.0) v.1) y is in
+        let b = bind_some (inner after) (λ v. Some (t.if_else l e1 q1 v.0, v.1)) y is in
         let s = inner_takes after b.0 b.1 in
-        let g = grown_takes stmt_depth most (t.if_else l e1 q1 b.0.0) b.0.1 y b.2 in
         let read : StmtTaken start (t.if_else l e1 q1 b.0.0) b.0.1 = record {
           written = z.if_else l m e o q f.0 s.written;
           levelled = (not_open q ts after ends at, is_expr, is_stmt, s.levelled);
@@ -337,7 +331,7 @@ module _ (defs : List Name) (most : ℕ) (positive : 1 ≤ most) (expr : ℕ →
           tokens = tokens ∙ ap (λ v. word l if_word ∷ mark m open_round ∷ w.spell e (mark o close_round ∷ spell_stmt q v)) (f.2 ∙ ap (λ v. word f.0 else_word ∷ v) s.tokens);
           ends = s.ends;
         } in
-        rw (← g.0) read
+        rw (← some_is b.2) read
 
     stmt_by_takes : (h : Token) (ts : List Token) (form : Form) (y : Stmt × List Token) → FormTaken h ts form → r.stmt_by defs most expr inner h.line ts (h ∷ ts) form ≡ Some y → StmtTaken (h ∷ ts) y.0 y.1
     stmt_by_takes h ts r.if y at is =
@@ -348,11 +342,10 @@ module _ (defs : List Name) (most : ℕ) (positive : 1 ≤ most) (expr : ℕ →
         else_takes (h ∷ ts) b.0.1 h.line e.open_line e.written e.close_line q.written a.0.0 b.0.0 (eat_word else_word b.0.1) y e.levelled q.levelled e.plain_is q.plain_is
         (at ∙ ap (λ v. word h.line if_word ∷ v) (e.tokens ∙ ap (λ v. mark e.open_line open_round ∷ w.spell e.written (mark e.close_line close_round ∷ v)) q.tokens)) q.ends refl b.2
     stmt_by_takes h ts r.while y at is =
-        let a = bind_some (r.test defs most expr ts) (λ e. inner e.1 >>= λ x. grown stmt_depth most (t.while h.line e.0 x.0) x.1) y is in
+        let a = bind_some (r.test defs most expr ts) (λ e. inner e.1 >>= λ x. Some (t.while h.line e.0 x.0, x.1)) y is in
         let e = test_takes ts a.0 a.1 in
-        let b = bind_some (inner a.0.1) (λ x. grown stmt_depth most (t.while h.line a.0.0 x.0) x.1) y a.2 in
+        let b = bind_some (inner a.0.1) (λ x. Some (t.while h.line a.0.0 x.0, x.1)) y a.2 in
         let q = inner_takes a.0.1 b.0 b.1 in
-        let g = grown_takes stmt_depth most (t.while h.line a.0.0 b.0.0) b.0.1 y b.2 in
         let read : StmtTaken (h ∷ ts) (t.while h.line a.0.0 b.0.0) b.0.1 = record {
           written = z.while h.line e.open_line e.written e.close_line q.written;
           levelled = (e.levelled, q.levelled);
@@ -360,17 +353,16 @@ module _ (defs : List Name) (most : ℕ) (positive : 1 ≤ most) (expr : ℕ →
           tokens = at ∙ ap (λ v. word h.line while_word ∷ v) (e.tokens ∙ ap (λ v. mark e.open_line open_round ∷ w.spell e.written (mark e.close_line close_round ∷ v)) q.tokens);
           ends = q.ends;
         } in
-        rw (← g.0) read
+        rw (← some_is b.2) read
     stmt_by_takes h ts r.do_while y at is =
-        let a = bind_some (inner ts) (λ x. eat_word while_word x.1 >>= λ a. r.test defs most expr a >>= λ e. eat semicolon e.1 >>= λ b. grown stmt_depth most (t.do_while h.line x.0 (line_at x.1) e.0) b) y is in
+        let a = bind_some (inner ts) (λ x. eat_word while_word x.1 >>= λ a. r.test defs most expr a >>= λ e. eat semicolon e.1 >>= λ b. Some (t.do_while h.line x.0 (line_at x.1) e.0, b)) y is in
         let q = inner_takes ts a.0 a.1 in
-        let b = bind_some (eat_word while_word a.0.1) (λ v. r.test defs most expr v >>= λ e. eat semicolon e.1 >>= λ b. grown stmt_depth most (t.do_while h.line a.0.0 (line_at a.0.1) e.0) b) y a.2 in
+        let b = bind_some (eat_word while_word a.0.1) (λ v. r.test defs most expr v >>= λ e. eat semicolon e.1 >>= λ b. Some (t.do_while h.line a.0.0 (line_at a.0.1) e.0, b)) y a.2 in
         let f = word_takes while_word a.0.1 b.0 b.1 in
-        let c = bind_some (r.test defs most expr b.0) (λ e. eat semicolon e.1 >>= λ b. grown stmt_depth most (t.do_while h.line a.0.0 (line_at a.0.1) e.0) b) y b.2 in
+        let c = bind_some (r.test defs most expr b.0) (λ e. eat semicolon e.1 >>= λ b. Some (t.do_while h.line a.0.0 (line_at a.0.1) e.0, b)) y b.2 in
         let e = test_takes b.0 c.0 c.1 in
-        let s = bind_some (eat semicolon c.0.1) (λ b. grown stmt_depth most (t.do_while h.line a.0.0 (line_at a.0.1) c.0.0) b) y c.2 in
+        let s = bind_some (eat semicolon c.0.1) (λ b. Some (t.do_while h.line a.0.0 (line_at a.0.1) c.0.0, b)) y c.2 in
         let m = eat_takes semicolon c.0.1 s.0 s.1 in
-        let g = grown_takes stmt_depth most (t.do_while h.line a.0.0 (line_at a.0.1) c.0.0) s.0 y s.2 in
         let read : StmtTaken (h ∷ ts) (t.do_while h.line a.0.0 (line_at a.0.1) c.0.0) s.0 = record {
           written = z.do_while h.line q.written f.0 e.open_line e.written e.close_line m.0;
           levelled = (q.levelled, e.levelled);
@@ -378,20 +370,19 @@ module _ (defs : List Name) (most : ℕ) (positive : 1 ≤ most) (expr : ℕ →
           tokens = at ∙ ap (λ v. word h.line do_word ∷ v) (q.tokens ∙ ap (spell_stmt q.written) (f.2 ∙ ap (λ v. word f.0 while_word ∷ v) (e.tokens ∙ ap (λ v. mark e.open_line open_round ∷ w.spell e.written (mark e.close_line close_round ∷ v)) m.2)));
           ends = never_open (z.do_while h.line q.written f.0 e.open_line e.written e.close_line m.0) s.0 refl;
         } in
-        rw (← g.0) read
+        rw (← some_is s.2) read
     stmt_by_takes h ts r.for y at is =
         let make : Option Expr → Option Expr → Option Expr → Stmt → Stmt = t.for h.line in
-        let a = bind_some (eat open_round ts) (λ a. r.maybe defs most expr semicolon a >>= λ e1. r.maybe defs most expr semicolon e1.1 >>= λ e2. r.maybe defs most expr close_round e2.1 >>= λ e3. inner e3.1 >>= λ x. grown stmt_depth most (make e1.0 e2.0 e3.0 x.0) x.1) y is in
+        let a = bind_some (eat open_round ts) (λ a. r.maybe defs most expr semicolon a >>= λ e1. r.maybe defs most expr semicolon e1.1 >>= λ e2. r.maybe defs most expr close_round e2.1 >>= λ e3. inner e3.1 >>= λ x. Some (make e1.0 e2.0 e3.0 x.0, x.1)) y is in
         let f = eat_takes open_round ts a.0 a.1 in
-        let b = bind_some (r.maybe defs most expr semicolon a.0) (λ e1. r.maybe defs most expr semicolon e1.1 >>= λ e2. r.maybe defs most expr close_round e2.1 >>= λ e3. inner e3.1 >>= λ x. grown stmt_depth most (make e1.0 e2.0 e3.0 x.0) x.1) y a.2 in
+        let b = bind_some (r.maybe defs most expr semicolon a.0) (λ e1. r.maybe defs most expr semicolon e1.1 >>= λ e2. r.maybe defs most expr close_round e2.1 >>= λ e3. inner e3.1 >>= λ x. Some (make e1.0 e2.0 e3.0 x.0, x.1)) y a.2 in
         let e1 = maybe_takes semicolon a.0 (eat semicolon a.0) b.0 refl b.1 in
-        let c = bind_some (r.maybe defs most expr semicolon b.0.1) (λ e2. r.maybe defs most expr close_round e2.1 >>= λ e3. inner e3.1 >>= λ x. grown stmt_depth most (make b.0.0 e2.0 e3.0 x.0) x.1) y b.2 in
+        let c = bind_some (r.maybe defs most expr semicolon b.0.1) (λ e2. r.maybe defs most expr close_round e2.1 >>= λ e3. inner e3.1 >>= λ x. Some (make b.0.0 e2.0 e3.0 x.0, x.1)) y b.2 in
         let e2 = maybe_takes semicolon b.0.1 (eat semicolon b.0.1) c.0 refl c.1 in
-        let s = bind_some (r.maybe defs most expr close_round c.0.1) (λ e3. inner e3.1 >>= λ x. grown stmt_depth most (make b.0.0 c.0.0 e3.0 x.0) x.1) y c.2 in
+        let s = bind_some (r.maybe defs most expr close_round c.0.1) (λ e3. inner e3.1 >>= λ x. Some (make b.0.0 c.0.0 e3.0 x.0, x.1)) y c.2 in
         let e3 = maybe_takes close_round c.0.1 (eat close_round c.0.1) s.0 refl s.1 in
-        let u = bind_some (inner s.0.1) (λ x. grown stmt_depth most (make b.0.0 c.0.0 s.0.0 x.0) x.1) y s.2 in
+        let u = bind_some (inner s.0.1) (λ x. Some (make b.0.0 c.0.0 s.0.0 x.0, x.1)) y s.2 in
         let q = inner_takes s.0.1 u.0 u.1 in
-        let g = grown_takes stmt_depth most (make b.0.0 c.0.0 s.0.0 u.0.0) u.0.1 y u.2 in
         let read : StmtTaken (h ∷ ts) (make b.0.0 c.0.0 s.0.0 u.0.0) u.0.1 = record {
           written = z.for h.line f.0 e1.written e1.line e2.written e2.line e3.written e3.line q.written;
           levelled = (e1.levelled, e2.levelled, e3.levelled, q.levelled);
@@ -401,17 +392,16 @@ module _ (defs : List Name) (most : ℕ) (positive : 1 ≤ most) (expr : ℕ →
               (e2.tokens ∙ ap (λ v. spell_if w.spell e2.written (mark e2.line semicolon ∷ v)) (e3.tokens ∙ ap (λ v. spell_if w.spell e3.written (mark e3.line close_round ∷ v)) q.tokens))));
           ends = q.ends;
         } in
-        rw (← g.0) read
+        rw (← some_is u.2) read
     stmt_by_takes h ts r.switch y at is =
-        let a = bind_some (r.test defs most expr ts) (λ e. eat open_brace e.1 >>= λ a. r.items defs most expr inner (suc (length a)) a >>= λ xs. eat close_brace xs.1 >>= λ b. grown stmt_depth most (t.switch h.line e.0 xs.0) b) y is in
+        let a = bind_some (r.test defs most expr ts) (λ e. eat open_brace e.1 >>= λ a. r.items defs most expr inner (suc (length a)) a >>= λ xs. eat close_brace xs.1 >>= λ b. Some (t.switch h.line e.0 xs.0, b)) y is in
         let e = test_takes ts a.0 a.1 in
-        let b = bind_some (eat open_brace a.0.1) (λ v. r.items defs most expr inner (suc (length v)) v >>= λ xs. eat close_brace xs.1 >>= λ b. grown stmt_depth most (t.switch h.line a.0.0 xs.0) b) y a.2 in
+        let b = bind_some (eat open_brace a.0.1) (λ v. r.items defs most expr inner (suc (length v)) v >>= λ xs. eat close_brace xs.1 >>= λ b. Some (t.switch h.line a.0.0 xs.0, b)) y a.2 in
         let f = eat_takes open_brace a.0.1 b.0 b.1 in
-        let c = bind_some (r.items defs most expr inner (suc (length b.0)) b.0) (λ xs. eat close_brace xs.1 >>= λ b. grown stmt_depth most (t.switch h.line a.0.0 xs.0) b) y b.2 in
+        let c = bind_some (r.items defs most expr inner (suc (length b.0)) b.0) (λ xs. eat close_brace xs.1 >>= λ b. Some (t.switch h.line a.0.0 xs.0, b)) y b.2 in
         let qs = items_take (suc (length b.0)) b.0 c.0 c.1 in
-        let s = bind_some (eat close_brace c.0.1) (λ b. grown stmt_depth most (t.switch h.line a.0.0 c.0.0) b) y c.2 in
+        let s = bind_some (eat close_brace c.0.1) (λ b. Some (t.switch h.line a.0.0 c.0.0, b)) y c.2 in
         let m = eat_takes close_brace c.0.1 s.0 s.1 in
-        let g = grown_takes stmt_depth most (t.switch h.line a.0.0 c.0.0) s.0 y s.2 in
         let read : StmtTaken (h ∷ ts) (t.switch h.line a.0.0 c.0.0) s.0 = record {
           written = z.switch h.line e.open_line e.written e.close_line f.0 qs.written m.0;
           levelled = (e.levelled, qs.levelled);
@@ -419,11 +409,10 @@ module _ (defs : List Name) (most : ℕ) (positive : 1 ≤ most) (expr : ℕ →
           tokens = at ∙ ap (λ v. word h.line switch_word ∷ v) (e.tokens ∙ ap (λ v. mark e.open_line open_round ∷ w.spell e.written (mark e.close_line close_round ∷ v)) (f.2 ∙ ap (λ v. mark f.0 open_brace ∷ v) (qs.tokens ∙ ap (spell_items qs.written) m.2)));
           ends = never_open (z.switch h.line e.open_line e.written e.close_line f.0 qs.written m.0) s.0 refl;
         } in
-        rw (← g.0) read
+        rw (← some_is s.2) read
     stmt_by_takes h ts r.break y at is =
-        let a = bind_some (eat semicolon ts) (λ v. grown stmt_depth most (t.break h.line) v) y is in
+        let a = bind_some (eat semicolon ts) (λ v. Some (t.break h.line, v)) y is in
         let m = eat_takes semicolon ts a.0 a.1 in
-        let g = grown_takes stmt_depth most (t.break h.line) a.0 y a.2 in
         let read : StmtTaken (h ∷ ts) (t.break h.line) a.0 = record {
           written = z.break h.line m.0;
           levelled = tt;
@@ -431,11 +420,10 @@ module _ (defs : List Name) (most : ℕ) (positive : 1 ≤ most) (expr : ℕ →
           tokens = at ∙ ap (λ v. word h.line break_word ∷ v) m.2;
           ends = never_open (z.break h.line m.0) a.0 refl;
         } in
-        rw (← g.0) read
+        rw (← some_is a.2) read
     stmt_by_takes h ts r.continue y at is =
-        let a = bind_some (eat semicolon ts) (λ v. grown stmt_depth most (t.continue h.line) v) y is in
+        let a = bind_some (eat semicolon ts) (λ v. Some (t.continue h.line, v)) y is in
         let m = eat_takes semicolon ts a.0 a.1 in
-        let g = grown_takes stmt_depth most (t.continue h.line) a.0 y a.2 in
         let read : StmtTaken (h ∷ ts) (t.continue h.line) a.0 = record {
           written = z.continue h.line m.0;
           levelled = tt;
@@ -443,11 +431,10 @@ module _ (defs : List Name) (most : ℕ) (positive : 1 ≤ most) (expr : ℕ →
           tokens = at ∙ ap (λ v. word h.line continue_word ∷ v) m.2;
           ends = never_open (z.continue h.line m.0) a.0 refl;
         } in
-        rw (← g.0) read
+        rw (← some_is a.2) read
     stmt_by_takes h ts r.return y at is =
-        let a = bind_some (r.maybe defs most expr semicolon ts) (λ e. grown stmt_depth most (t.return h.line e.0) e.1) y is in
+        let a = bind_some (r.maybe defs most expr semicolon ts) (λ e. Some (t.return h.line e.0, e.1)) y is in
         let e = maybe_takes semicolon ts (eat semicolon ts) a.0 refl a.1 in
-        let g = grown_takes stmt_depth most (t.return h.line a.0.0) a.0.1 y a.2 in
         let read : StmtTaken (h ∷ ts) (t.return h.line a.0.0) a.0.1 = record {
           written = z.return h.line e.written e.line;
           levelled = e.levelled;
@@ -455,16 +442,14 @@ module _ (defs : List Name) (most : ℕ) (positive : 1 ≤ most) (expr : ℕ →
           tokens = at ∙ ap (λ v. word h.line return_word ∷ v) e.tokens;
           ends = never_open (z.return h.line e.written e.line) a.0.1 refl;
         } in
-        rw (← g.0) read
+        rw (← some_is a.2) read
     stmt_by_takes h ts r.empty y at is =
-        let g = grown_takes stmt_depth most (t.empty h.line) ts y is in
         let read : StmtTaken (h ∷ ts) (t.empty h.line) ts = record { written = z.empty h.line; levelled = tt; plain_is = refl; tokens = at; ends = never_open (z.empty h.line) ts refl } in
-        rw (← g.0) read
+        rw (← some_is is) read
     stmt_by_takes h ts r.block y at is =
         let of_block : Block → Stmt = λ b. t.block b.line b.decls b.stmts b.close_line in
-        let a = bind_some (r.block_behind defs most expr inner h.line ts) (λ b. grown stmt_depth most (of_block b.0) b.1) y is in
+        let a = bind_some (r.block_behind defs most expr inner h.line ts) (λ b. Some (of_block b.0, b.1)) y is in
         let b = block_takes h.line ts a.0 a.1 in
-        let g = grown_takes stmt_depth most (of_block a.0.0) a.0.1 y a.2 in
         let read : StmtTaken (h ∷ ts) (of_block a.0.0) a.0.1 = record {
           written = z.block h.line b.decls b.stmts b.close;
           levelled = (b.are_decls, b.are_stmts);
@@ -472,13 +457,12 @@ module _ (defs : List Name) (most : ℕ) (positive : 1 ≤ most) (expr : ℕ →
           tokens = at ∙ ap (λ v. mark h.line open_brace ∷ v) b.tokens;
           ends = never_open (z.block h.line b.decls b.stmts b.close) a.0.1 refl;
         } in
-        rw (← g.0) read
+        rw (← some_is a.2) read
     stmt_by_takes h ts r.expr y at is =
-        let a = bind_some (expr 1 (h ∷ ts)) (λ e. eat semicolon e.1 >>= λ v. grown stmt_depth most (t.expr h.line e.0) v) y is in
+        let a = bind_some (expr 1 (h ∷ ts)) (λ e. eat semicolon e.1 >>= λ v. Some (t.expr h.line e.0, v)) y is in
         let e = (expr_takes 1 (h ∷ ts) a.0 (omega arith) (omega arith) a.1).0 in
-        let b = bind_some (eat semicolon a.0.1) (λ v. grown stmt_depth most (t.expr h.line a.0.0) v) y a.2 in
+        let b = bind_some (eat semicolon a.0.1) (λ v. Some (t.expr h.line a.0.0, v)) y a.2 in
         let m = eat_takes semicolon a.0.1 b.0 b.1 in
-        let g = grown_takes stmt_depth most (t.expr h.line a.0.0) b.0 y b.2 in
         let line : w.first e.written ≡ h.line = sym (line_first e.written a.0.1) ∙ ap line_at (sym e.tokens) in
         let read : StmtTaken (h ∷ ts) (t.expr h.line a.0.0) b.0 = record {
           written = z.expr e.written m.0;
@@ -487,7 +471,7 @@ module _ (defs : List Name) (most : ℕ) (positive : 1 ≤ most) (expr : ℕ →
           tokens = e.tokens ∙ ap (w.spell e.written) m.2;
           ends = never_open (z.expr e.written m.0) b.0 refl;
         } in
-        rw (← g.0) read
+        rw (← some_is b.2) read
 
     stmt_at_takes : (ts : List Token) (y : Stmt × List Token) → r.stmt_at defs most expr inner ts ≡ Some y → StmtTaken ts y.0 y.1
     stmt_at_takes [] y is = cc

@@ -15,7 +15,6 @@ use Rattle.c_tree.specs.WrittenUnit as u
 use Rattle.c_tree.specs.Reads.{may_follow, most, ReadsTokens}
 use Rattle.c_expr.specs.Front.{Read, ◌>>=◌}
 use Rattle.c_expr.proofs.Taken.{some_is}
-use Rattle.c_expr.proofs.Fronts.{grown_again}
 use Rattle.c_decl.proofs.OutsideAgain.{whole_again, head_again, ext_longer}
 use Rattle.c_parse.specs.ReadStmt as r
 use Rattle.c_parse.specs.ReadUnit as q
@@ -35,7 +34,6 @@ module _ (most : ℕ) (expr : List Name → ℕ → List Token → Read Expr)
         head_again defs most (expr defs) (expr_again defs) h (spell_block b after) ok.0 (omega arith) refl,
         block_again defs most (expr defs) (expr_again defs) most (r.stmt defs most (expr defs) most) (stmt_again defs most (expr defs) (expr_again defs) most) b.line b.decls b.stmts b.close_line after
             (ok.1.0) (ok.1.1) (omega arith) (omega arith) (omega arith),
-        grown_again ext_depth most (plain_ext (u.func h b)) after low,
       ) refl
 
   exts_end : (j : ℕ) (defs : List Name) → q.exts most expr (suc j) defs [] ≡ Some []

@@ -6,18 +6,17 @@ use Rattle.c_type.specs.Tokens.{Token}
 use Rattle.c_tree.specs.Words.{mark, open_brace}
 use Rattle.c_tree.specs.TreeExpr.{Expr, expr_depth}
 use Rattle.c_tree.specs.TreeStmt.{Block}
-use Rattle.c_tree.specs.TreeUnit.{Ext, ext_depth, unit_depth}
+use Rattle.c_tree.specs.TreeUnit.{Ext, unit_depth}
 use Rattle.c_tree.specs.TreeUnit as t
 use Rattle.c_tree.specs.WrittenExpr.{Written, IsAtLevel}
 use Rattle.c_tree.specs.WrittenExpr as w
 use Rattle.c_tree.specs.WrittenUnit.{WrittenExt, plain_ext, plain_head, IsExt, AreExts, spell_ext, spell_head, spell_exts, with_typedefs, plain_unit}
 use Rattle.c_tree.specs.WrittenUnit as u
 use Rattle.c_tree.specs.Reads.{may_follow, most, Spells, AreShallow, ReadsTokens}
-use Rattle.c_expr.specs.Front.{Read, ◌>>=◌, eat, line_at, grown}
+use Rattle.c_expr.specs.Front.{Read, ◌>>=◌, eat, line_at}
 use Rattle.c_decl.specs.ReadDecl.{Outside, outside}
 use Rattle.c_decl.specs.ReadDecl as d
 use Rattle.c_expr.proofs.Taken.{some_is, bind_some, chosen, eat_takes}
-use Rattle.c_decl.proofs.SeparatedTakes.{grown_takes}
 use Rattle.c_decl.proofs.OutsideTakes.{OutsideTaken, outside_takes}
 use Rattle.c_parse.specs.ReadStmt as r
 use Rattle.c_parse.specs.ReadUnit as q
@@ -45,11 +44,10 @@ module _ (most : ℕ) (positive : 1 ≤ most) (expr : List Name → ℕ → List
   ext_by_takes defs ts (d.head h) rest y taken is =
       let inner : List Token → Read _ = r.stmt defs most (expr defs) most in
       let made : t.FuncHead → Block → Ext = λ v b. t.func v.line v.specs v.declr v.params b in
-      let a = bind_some (eat open_brace rest) (λ a. r.block_behind defs most (expr defs) inner (line_at rest) a >>= λ b. grown ext_depth most (made h b.0) b.1) y is in
+      let a = bind_some (eat open_brace rest) (λ a. r.block_behind defs most (expr defs) inner (line_at rest) a >>= λ b. Some (made h b.0, b.1)) y is in
       let f = eat_takes open_brace rest a.0 a.1 in
-      let c = bind_some (r.block_behind defs most (expr defs) inner (line_at rest) a.0) (λ b. grown ext_depth most (made h b.0) b.1) y a.2 in
+      let c = bind_some (r.block_behind defs most (expr defs) inner (line_at rest) a.0) (λ b. Some (made h b.0, b.1)) y a.2 in
       let b = block_takes defs most positive (expr defs) (expr_takes defs) inner (stmt_takes defs most positive (expr defs) (expr_takes defs) most) (line_at rest) a.0 c.0 c.1 in
-      let g = grown_takes ext_depth most (made h c.0.0) c.0.1 y c.2 in
       let brace : rest ≡ mark (line_at rest) open_brace ∷ a.0 = f.2 ∙ ap (λ l. mark l open_brace ∷ a.0) (sym f.1) in
       let read : ExtTaken defs ts (made h c.0.0) c.0.1 = record {
         written = u.func taken.written (record { line = line_at rest; decls = b.decls; stmts = b.stmts; close_line = b.close });
@@ -57,7 +55,7 @@ module _ (most : ℕ) (positive : 1 ≤ most) (expr : List Name → ℕ → List
         plain_is = ap (made (plain_head taken.written)) b.plain_is ∙ ap (λ v. made v c.0.0) taken.plain_is;
         tokens = taken.tokens ∙ ap (spell_head taken.written) (brace ∙ ap (λ v. mark (line_at rest) open_brace ∷ v) b.tokens);
       } in
-      rw (← g.0) read
+      rw (← some_is c.2) read
 
   ext_takes : (defs : List Name) (ts : List Token) (y : Ext × List Token) → q.ext most expr defs ts ≡ Some y → ExtTaken defs ts y.0 y.1
   ext_takes defs ts y is =

@@ -6,9 +6,9 @@ use Rattle.c_type.specs.Tokens as k
 use Rattle.c_tree.specs.Words.{case_word, default_word, else_word, while_word, open_round, close_round, open_brace, close_brace, semicolon, colon}
 use Rattle.c_tree.specs.TreeExpr.{Expr}
 use Rattle.c_tree.specs.TreeDecl.{LocalDecl}
-use Rattle.c_tree.specs.TreeStmt.{Stmt, Stmts, SwItem, SwItems, Block, stmt_depth, item_depth}
+use Rattle.c_tree.specs.TreeStmt.{Stmt, Stmts, SwItem, SwItems, Block}
 use Rattle.c_tree.specs.TreeStmt as t
-use Rattle.c_expr.specs.Front.{Read, ◌>>=◌, eat, eat_word, line_at, grown}
+use Rattle.c_expr.specs.Front.{Read, ◌>>=◌, eat, eat_word, line_at}
 use Rattle.c_decl.specs.ReadSpecs.{Start, start_at}
 use Rattle.c_decl.specs.ReadSpecs as s
 use Rattle.c_decl.specs.ReadDecl as d
@@ -80,9 +80,9 @@ module _ (defs : List Name) (most : ℕ) (expr_at : ℕ → List Token → Read 
     stmts (suc j) ts = stmts_by (stmts j) ts (eat close_brace ts)
 
     abbrev pub item_by : List Token → Option (List Token) → Option (List Token) → Read SwItem
-    item_by ts (Some after) _ = expr_at 1 after >>= λ e. eat colon e.1 >>= λ rest. grown item_depth most (t.case (line_at ts) e.0) rest
-    item_by ts None (Some after) = eat colon after >>= λ rest. grown item_depth most (t.default (line_at ts)) rest
-    item_by ts None None = inner ts >>= λ x. grown item_depth most (t.stmt x.0) x.1
+    item_by ts (Some after) _ = expr_at 1 after >>= λ e. eat colon e.1 >>= λ rest. Some (t.case (line_at ts) e.0, rest)
+    item_by ts None (Some after) = eat colon after >>= λ rest. Some (t.default (line_at ts), rest)
+    item_by ts None None = inner ts >>= λ x. Some (t.stmt x.0, x.1)
 
     abbrev pub item : List Token → Read SwItem
     item ts = item_by ts (eat_word case_word ts) (eat_word default_word ts)
@@ -102,26 +102,26 @@ module _ (defs : List Name) (most : ℕ) (expr_at : ℕ → List Token → Read 
         Some (record { line = l; decls = ds.0; stmts = ss.0; close_line = line_at ss.1 }, after)
 
     abbrev pub else_by : ℕ → Expr → Stmt → List Token → Option (List Token) → Read Stmt
-    else_by l e x ts None = grown stmt_depth most (t.if_only l e x) ts
-    else_by l e x ts (Some after) = inner after >>= λ y. grown stmt_depth most (t.if_else l e x y.0) y.1
+    else_by l e x ts None = Some (t.if_only l e x, ts)
+    else_by l e x ts (Some after) = inner after >>= λ y. Some (t.if_else l e x y.0, y.1)
 
     -- l is the line of the first token, and ts stands behind it
     abbrev pub stmt_by : ℕ → List Token → List Token → Form → Read Stmt
     stmt_by l ts whole if = test ts >>= λ e. inner e.1 >>= λ x. else_by l e.0 x.0 x.1 (eat_word else_word x.1)
-    stmt_by l ts whole while = test ts >>= λ e. inner e.1 >>= λ x. grown stmt_depth most (t.while l e.0 x.0) x.1
+    stmt_by l ts whole while = test ts >>= λ e. inner e.1 >>= λ x. Some (t.while l e.0 x.0, x.1)
     stmt_by l ts whole do_while =
-        inner ts >>= λ x. eat_word while_word x.1 >>= λ a. test a >>= λ e. eat semicolon e.1 >>= λ b. grown stmt_depth most (t.do_while l x.0 (line_at x.1) e.0) b
+        inner ts >>= λ x. eat_word while_word x.1 >>= λ a. test a >>= λ e. eat semicolon e.1 >>= λ b. Some (t.do_while l x.0 (line_at x.1) e.0, b)
     stmt_by l ts whole for =
         eat open_round ts >>= λ a. maybe semicolon a >>= λ e1. maybe semicolon e1.1 >>= λ e2. maybe close_round e2.1 >>= λ e3. inner e3.1 >>= λ x.
-        grown stmt_depth most (t.for l e1.0 e2.0 e3.0 x.0) x.1
+        Some (t.for l e1.0 e2.0 e3.0 x.0, x.1)
     stmt_by l ts whole switch =
-        test ts >>= λ e. eat open_brace e.1 >>= λ a. items (suc (length a)) a >>= λ xs. eat close_brace xs.1 >>= λ b. grown stmt_depth most (t.switch l e.0 xs.0) b
-    stmt_by l ts whole break = eat semicolon ts >>= λ a. grown stmt_depth most (t.break l) a
-    stmt_by l ts whole continue = eat semicolon ts >>= λ a. grown stmt_depth most (t.continue l) a
-    stmt_by l ts whole return = maybe semicolon ts >>= λ e. grown stmt_depth most (t.return l e.0) e.1
-    stmt_by l ts whole empty = grown stmt_depth most (t.empty l) ts
-    stmt_by l ts whole block = block_behind l ts >>= λ b. grown stmt_depth most (t.block b.0.line b.0.decls b.0.stmts b.0.close_line) b.1
-    stmt_by l ts whole expr = expr_at 1 whole >>= λ e. eat semicolon e.1 >>= λ a. grown stmt_depth most (t.expr l e.0) a
+        test ts >>= λ e. eat open_brace e.1 >>= λ a. items (suc (length a)) a >>= λ xs. eat close_brace xs.1 >>= λ b. Some (t.switch l e.0 xs.0, b)
+    stmt_by l ts whole break = eat semicolon ts >>= λ a. Some (t.break l, a)
+    stmt_by l ts whole continue = eat semicolon ts >>= λ a. Some (t.continue l, a)
+    stmt_by l ts whole return = maybe semicolon ts >>= λ e. Some (t.return l e.0, e.1)
+    stmt_by l ts whole empty = Some (t.empty l, ts)
+    stmt_by l ts whole block = block_behind l ts >>= λ b. Some (t.block b.0.line b.0.decls b.0.stmts b.0.close_line, b.1)
+    stmt_by l ts whole expr = expr_at 1 whole >>= λ e. eat semicolon e.1 >>= λ a. Some (t.expr l e.0, a)
 
     abbrev pub stmt_at : List Token → Read Stmt
     stmt_at [] = None

@@ -4,10 +4,10 @@ use Rattle.c_type.specs.Names.{Name, pick}
 use Rattle.c_type.specs.Tokens.{Token}
 use Rattle.c_tree.specs.Words.{open_brace}
 use Rattle.c_tree.specs.TreeExpr.{Expr}
-use Rattle.c_tree.specs.TreeUnit.{Ext, ext_depth, unit_depth}
+use Rattle.c_tree.specs.TreeUnit.{Ext, unit_depth}
 use Rattle.c_tree.specs.TreeUnit as u
 use Rattle.c_tree.specs.WrittenUnit.{with_typedefs}
-use Rattle.c_expr.specs.Front.{Read, ◌>>=◌, eat, line_at, grown}
+use Rattle.c_expr.specs.Front.{Read, ◌>>=◌, eat, line_at}
 use Rattle.c_decl.specs.ReadDecl.{Outside, whole, head, outside}
 use Rattle.c_parse.specs.ReadStmt as s
 
@@ -17,7 +17,7 @@ module _ (most : ℕ) (expr : List Name → ℕ → List Token → Read Expr) wh
   ext_by defs (whole e) ts = Some (e, ts)
   ext_by defs (head h) ts =
       eat open_brace ts >>= λ a. s.block_behind defs most (expr defs) (s.stmt defs most (expr defs) most) (line_at ts) a >>= λ b.
-      grown ext_depth most (u.func h.line h.specs h.declr h.params b.0) b.1
+      Some (u.func h.line h.specs h.declr h.params b.0, b.1)
 
   abbrev pub ext : List Name → List Token → Read Ext
   ext defs ts = outside defs most (expr defs) ts >>= λ o. ext_by defs o.0 o.1

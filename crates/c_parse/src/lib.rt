@@ -5,10 +5,16 @@
 #![tactic(auto)]
 
 mod brackets;
+mod depth;
+mod parts;
+mod places;
+mod statements;
+mod units;
 
 ghost use Rattle.c_parse.specs.Laws.{IsOneReading, IsOneUnit, IsRead, IsSpelled};
 
 pub use brackets::opened;
+pub use units::parse;
 
 /// At most one unit reads a text.
 pub fn one_reading()
@@ -37,3 +43,6 @@ pub fn what_is_read_is_spelled()
 {
     // The law is all that is promised.
 }
+
+#[cfg(test)]
+mod tests;
