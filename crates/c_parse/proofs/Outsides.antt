@@ -18,7 +18,7 @@ use Rattle.c_decl.specs.declared.Head.{Head}
 use Rattle.c_decl.specs.declared.Head.TheVariants.{Whole, Func}
 use Rattle.c_decl.specs.declared.reader.Reader.{Reader}
 use Rattle.c_decl.specs.Answers.{Gives, found, names, rest}
-use Rattle.c_decl.specs.Found.{IsFoundAt, names_behind}
+use Rattle.c_decl.specs.FoundAt.{IsFoundAt, names_behind}
 use Rattle.c_decl.specs.HeadOf.{head_of, outside_of}
 use Rattle.c_decl.specs.Expression.{expression}
 use Rattle.c_decl.specs.ReadDecl as d

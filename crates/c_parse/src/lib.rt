@@ -1,7 +1,9 @@
 //! Statements and units: from tokens to their trees.
 //!
-//! A reading function on lists of tokens stands between the spellings of a unit and a reader of tokens.
-//! The laws that join it to the spellings are the contracts of functions that do nothing.
+//! `parse` gives the unit that the tokens of a text spell, and refuses exactly where they spell none.
+//!
+//! A reading function on lists of tokens stands between the spellings of a unit and the parser. The laws that
+//! join it to the spellings are the contracts of functions that do nothing.
 #![tactic(auto)]
 
 mod brackets;

@@ -20,25 +20,26 @@ fn read(alloc: Global, text: &[u8]) -> Result<Unit, ParseErr> {
     parse(alloc, &tokens)
 }
 
-/// What is answered: 0 for a unit, the line of NotC, 1000 and the line of TooDeep.
-fn answer(alloc: Global, text: &[u8]) -> Option<u64> {
+/// What the parser answers of a text.
+#[derive(Clone, Copy, Debug, PartialEq)]
+enum Seen {
+    Unit,
+    NotC(u32),
+    TooDeep(u32),
+    Memory,
+}
+
+fn answer(alloc: Global, text: &[u8]) -> Seen {
     match read(alloc, text) {
-        Ok(_) => Some(0),
-        Err(ParseErr::NotC(line)) => Some(u64::from(line)),
-        Err(ParseErr::TooDeep(line)) => Some(1000 + u64::from(line)),
-        Err(ParseErr::Memory) => None,
+        Ok(_) => Seen::Unit,
+        Err(ParseErr::NotC(line)) => Seen::NotC(line),
+        Err(ParseErr::TooDeep(line)) => Seen::TooDeep(line),
+        Err(ParseErr::Memory) => Seen::Memory,
     }
 }
 
-fn check(rt: &impl Abort, alloc: Global, text: &[u8], want: u64) {
-    assert_eq!(rt; answer(alloc, text), Some(want));
-}
-
-/// The body of a function, statements aside, in which each text is a unit.
-fn check_body(rt: &impl Abort, alloc: Global, body: &str, want: u64) -> Result<(), AllocError> {
-    let text = format!(in alloc; "f()\n{{\n{body}\n}}\n")?;
-    check(rt, alloc, text.as_bytes(), want);
-    Ok(())
+fn check(rt: &impl Abort, alloc: Global, text: &[u8], want: Seen) {
+    assert_eq!(rt; answer(alloc, text), want);
 }
 
 // ---- a text of the statements, in which an expression is its line
@@ -206,10 +207,9 @@ fn an_else_is_that_of_the_nearest_if(rt: HostRuntime) -> Result<(), Fail> {
 
 #[test]
 fn units_are_read(rt: HostRuntime) {
-    let texts: [&[u8]; 12] = [
+    let texts: [&[u8]; 11] = [
         b"",
         b"int x;",
-        b"x;",
         b"extern int f(), g();",
         b"typedef struct { int a; } t, *u; t x; u y;",
         b"enum e { A, B = 2 };",
@@ -221,14 +221,15 @@ fn units_are_read(rt: HostRuntime) {
         b"f() { if (a) ; else ; switch (a) { } { } }",
     ];
     for text in texts {
-        check(&rt, rt.alloc(), text, 0);
+        check(&rt, rt.alloc(), text, Seen::Unit);
     }
 }
 
 #[test]
 fn other_texts_are_refused(rt: HostRuntime) {
-    let texts: [&[u8]; 24] = [
+    let texts: [&[u8]; 25] = [
         b";",
+        b"x;",
         b"int x",
         b"int x,;",
         b"int;",
@@ -254,16 +255,21 @@ fn other_texts_are_refused(rt: HostRuntime) {
         b"f() { t x; } typedef int t;",
     ];
     for text in texts {
-        check(&rt, rt.alloc(), text, 1);
+        check(&rt, rt.alloc(), text, Seen::NotC(1));
     }
 }
 
 #[test]
 fn a_refusal_has_its_line(rt: HostRuntime) {
     let alloc = rt.alloc();
-    check(&rt, alloc, b"main()\n{\nx\n}\n", 4);
-    check(&rt, alloc, b"int x;\nint y\nz;\n", 3);
-    check(&rt, alloc, b"f()\n{\nif (a)\nb;\nelse\nelse\nc;\n}\n", 6);
+    check(&rt, alloc, b"main()\n{\nx\n}\n", Seen::NotC(4));
+    check(&rt, alloc, b"int x;\nint y\nz;\n", Seen::NotC(3));
+    check(
+        &rt,
+        alloc,
+        b"f()\n{\nif (a)\nb;\nelse\nelse\nc;\n}\n",
+        Seen::NotC(6),
+    );
 }
 
 /// A piece so many times.
@@ -288,18 +294,18 @@ fn brackets_are_open_200_deep(rt: HostRuntime) -> Result<(), Fail> {
     let alloc = rt.alloc();
     let (open, close) = (times(alloc, b"(", 199)?, times(alloc, b")", 199)?);
     let text = joined(alloc, &[b"f() {\n", &open, b"x", &close, b"; }"])?;
-    check(&rt, alloc, &text, 0);
+    check(&rt, alloc, &text, Seen::Unit);
     let text = joined(alloc, &[b"f() {\n", &open, b"(x)", &close, b"; }"])?;
-    check(&rt, alloc, &text, 1002);
+    check(&rt, alloc, &text, Seen::TooDeep(2));
     let text = joined(alloc, &[b"f() {\n", &open, b"[{\n", b"x"])?;
-    check(&rt, alloc, &text, 1002);
+    check(&rt, alloc, &text, Seen::TooDeep(2));
     Ok(())
 }
 
 #[test]
 fn a_unit_is_200_deep(rt: HostRuntime) -> Result<(), Fail> {
     let alloc = rt.alloc();
-    for (count, want) in [(195, 0), (196, 1)] {
+    for (count, want) in [(195, Seen::Unit), (196, Seen::NotC(1))] {
         let chain = times(alloc, b"if (x) ", count)?;
         let text = joined(alloc, &[b"f() { ", &chain, b"x; }"])?;
         check(&rt, alloc, &text, want);
@@ -310,35 +316,81 @@ fn a_unit_is_200_deep(rt: HostRuntime) -> Result<(), Fail> {
     Ok(())
 }
 
+/// The body of a function that begins with so many of the piece as 262,144 bytes hold.
+fn check_long(
+    rt: &impl Abort,
+    alloc: Global,
+    piece: &[u8],
+    count: usize,
+    want: Seen,
+) -> Result<(), AllocError> {
+    let long = times(alloc, piece, count)?;
+    check(
+        rt,
+        alloc,
+        &joined(alloc, &[b"f() { ", &long, b"x; }"])?,
+        want,
+    );
+    Ok(())
+}
+
 #[test]
-fn long_texts_are_answered(rt: HostRuntime) -> Result<(), Fail> {
+fn long_rows_of_brackets_are_refused(rt: HostRuntime) -> Result<(), Fail> {
     let alloc = rt.alloc();
-    let (begin, end): (&[u8], &[u8]) = (b"f() { ", b"x; }");
-    let pieces: [(&[u8], u64); 8] = [
-        (b"(", 1001),
-        (b"{", 1001),
-        (b"[", 1001),
-        (b"-", 1),
-        (b"*", 1),
-        (b"a+", 1),
-        (b"if(x)", 1),
-        (b"if(x);else ", 1),
-    ];
-    for (piece, want) in pieces {
-        let long = times(alloc, piece, 262_144 / piece.len())?;
-        check(&rt, alloc, &joined(alloc, &[begin, &long, end])?, want);
-    }
-    let many: [(&[u8], &[u8], &[u8]); 6] = [
-        (b"int ", b"a,", b"a;"),
+    check_long(&rt, alloc, b"(", 262_144, Seen::TooDeep(1))?;
+    check_long(&rt, alloc, b"{", 262_144, Seen::TooDeep(1))?;
+    check_long(&rt, alloc, b"[", 262_144, Seen::TooDeep(1))?;
+    Ok(())
+}
+
+#[test]
+fn long_rows_of_operators_are_refused(rt: HostRuntime) -> Result<(), Fail> {
+    let alloc = rt.alloc();
+    check_long(&rt, alloc, b"-", 262_144, Seen::NotC(1))?;
+    check_long(&rt, alloc, b"*", 262_144, Seen::NotC(1))?;
+    check_long(&rt, alloc, b"a+", 131_072, Seen::NotC(1))?;
+    Ok(())
+}
+
+#[test]
+fn long_chains_of_statements_are_refused(rt: HostRuntime) -> Result<(), Fail> {
+    let alloc = rt.alloc();
+    check_long(&rt, alloc, b"if(x)", 52_428, Seen::NotC(1))?;
+    check_long(&rt, alloc, b"if(x);else ", 23_831, Seen::NotC(1))?;
+    Ok(())
+}
+
+#[test]
+fn many_declarators_are_read(rt: HostRuntime) -> Result<(), Fail> {
+    let alloc = rt.alloc();
+    let long = times(alloc, b"a,", 131_000)?;
+    check(
+        &rt,
+        alloc,
+        &joined(alloc, &[b"int ", &long, b"a;"])?,
+        Seen::Unit,
+    );
+    Ok(())
+}
+
+#[test]
+fn long_lists_are_read(rt: HostRuntime) -> Result<(), Fail> {
+    let alloc = rt.alloc();
+    let lists: [(&[u8], &[u8], &[u8]); 5] = [
         (b"", b"int a;", b""),
         (b"int a[] = { ", b"1,", b"};"),
         (b"f() { ", b"x;", b"}"),
         (b"f() { int ", b"a,", b"a; }"),
         (b"f() { g(", b"1,", b"1); }"),
     ];
-    for (front, piece, back) in many {
-        let long = times(alloc, piece, 262_144 / piece.len())?;
-        check(&rt, alloc, &joined(alloc, &[front, &long, back])?, 0);
+    for (front, piece, back) in lists {
+        let long = times(alloc, piece, 32_768 / piece.len())?;
+        check(
+            &rt,
+            alloc,
+            &joined(alloc, &[front, &long, back])?,
+            Seen::Unit,
+        );
     }
     Ok(())
 }
@@ -351,6 +403,6 @@ fn many_typedef_names_are_read(rt: HostRuntime) -> Result<(), Fail> {
         text.extend_from_slice(format!(in alloc; "typedef int t{k};\n")?.as_bytes())?;
     }
     text.extend_from_slice(b"t0 a; t11999 b;")?;
-    check(&rt, alloc, &text, 0);
+    check(&rt, alloc, &text, Seen::Unit);
     Ok(())
 }

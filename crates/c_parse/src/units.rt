@@ -7,7 +7,7 @@ ghost use Rattle.c_tree.specs.Reads.{most, ReadsTokens, AreShallow};
 ghost use Rattle.c_lex.specs.Shown.{tokens_of};
 ghost use Rattle.c_expr.specs.Typedefs.{names_of};
 ghost use Rattle.c_expr.specs.Answer.{OnNotC};
-ghost use Rattle.c_decl.specs.Found.{names_behind};
+ghost use Rattle.c_decl.specs.FoundAt.{names_behind};
 ghost use Rattle.c_decl.specs.HeadOf.{head_of, outside_of};
 ghost use Rattle.c_decl.specs.Expression.{expression};
 ghost use Rattle.c_decl.specs.Answers.{Gives, found, rest};
