@@ -320,7 +320,12 @@ fn typedef_names_and_lines(rt: HostRuntime) -> Result<(), Fail> {
     };
     assert!(rt; matches!(declr, Declr::Pointer(3, _)));
     assert!(rt; declared_name(declr).is(b"x") && !declares_function(declr));
-    assert!(rt; matches!(read(alloc, b"int\nsize;", &mut defs), Err(ParseErr::NotC(2))));
+    assert!(rt;
+        matches!(
+            read(alloc, b"int\nsize;", &mut defs),
+            Err(ParseErr::NotC(2))
+        )
+    );
     Ok(())
 }
 
