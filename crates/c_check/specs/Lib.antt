@@ -1,3 +1,4 @@
 pub mod Judging
 pub mod JudgingUnit
 pub mod Laws
+pub mod Says

@@ -5,7 +5,13 @@
 //! written yet.
 #![tactic(auto)]
 
+mod error;
+mod types;
+mod values;
+
 ghost use Rattle.c_check.specs.Laws.{IsSound, IsComplete, IsRefused};
+
+pub use error::TypeErr;
 
 /// What the typing function gives is the unit's typed tree, and a rule that it says to fail fails in
 /// the unit.
