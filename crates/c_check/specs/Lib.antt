@@ -2,3 +2,4 @@ pub mod Judging
 pub mod JudgingUnit
 pub mod Laws
 pub mod Says
+pub mod Closed

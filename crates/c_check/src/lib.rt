@@ -2,10 +2,12 @@
 //!
 //! Between the rules, which are relations, and a checker stands a typing function on trees. Three
 //! laws join them, each the contract of a function that does nothing. The checker itself isn't
-//! written yet.
+//! written yet: of its code stand types, values and the operators of two operands that ask for no
+//! constant, each exact by the rule of its name.
 #![tactic(auto)]
 
 mod error;
+mod operators;
 mod types;
 mod values;
 

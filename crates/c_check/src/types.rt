@@ -1,11 +1,13 @@
 // Questions about types, and copies of them.
 ghost use Rattle.std.specs.Prelude.{◌≡◌, IfOk};
-ghost use Rattle.c_type.specs.Of.{type_of};
+ghost use Rattle.c_type.specs.Of.{type_of, tags_of};
 ghost use Rattle.c_type.specs.Types as t;
 ghost use Rattle.c_tree.specs.RuleTypes as r;
+ghost use Rattle.c_tree.specs.RuleScope.{known, is_sized as is_sized_rule};
 ghost use Rattle.c_tree.specs.RuleValues as v;
+ghost use Rattle.c_check.specs.Closed.{closed};
 
-use c_type::{CType, Kind};
+use c_type::{CType, Kind, Tags};
 use std::alloc::{AllocError, Global};
 
 /// The same type once more.
@@ -88,4 +90,26 @@ pub fn wide(alloc: Global, ty: &CType) -> Result<CType, AllocError>
         CType::Num(Kind::UChar | Kind::UShort) => CType::Num(Kind::UInt),
         _ => copy(alloc, ty)?,
     })
+}
+
+/// Whether the size of a type is known: each structure that it holds by value is closed.
+#[tactic(auto, using(c_type::proofs::Held::tag_count))]
+pub fn is_sized(tags: &Tags, ty: &CType) -> bool
+    ensures { result ≡ is_sized_rule (known (closed (tags_of tags.now))) (type_of ty.now) }
+{
+    match ty {
+        CType::Arr(_, of) => is_sized(tags, of),
+        CType::Struct(tag) | CType::Union(tag) => (tag.0 as usize) < tags.list.len(),
+        _ => true,
+    }
+}
+
+/// What moves a pointer needs the size of what it points to.
+pub fn target_is_sized(tags: &Tags, ty: &CType) -> bool
+    ensures { result ≡ v.target_is_sized (closed (tags_of tags.now)) (type_of ty.now) }
+{
+    match ty {
+        CType::Ptr(to) => is_sized(tags, to),
+        _ => true,
+    }
 }
