@@ -2,10 +2,18 @@
 //!
 //! Between the rules, which are relations, and a checker stands a typing function on trees. Three
 //! laws join them, each the contract of a function that does nothing. The checker itself isn't
-//! written yet.
+//! written yet: of its code stand types, values and the operators of two operands that ask for no
+//! constant, each exact by the rule of its name.
 #![tactic(auto)]
 
+mod error;
+mod operators;
+mod types;
+mod values;
+
 ghost use Rattle.c_check.specs.Laws.{IsSound, IsComplete, IsRefused};
+
+pub use error::TypeErr;
 
 /// What the typing function gives is the unit's typed tree, and a rule that it says to fail fails in
 /// the unit.
