@@ -360,14 +360,20 @@ fn long_chains_of_statements_are_refused(rt: HostRuntime) -> Result<(), Fail> {
     Ok(())
 }
 
-#[test]
-fn many_declarators_are_read(rt: HostRuntime) -> Result<(), Fail> {
-    let alloc = rt.alloc();
-    let long = times(alloc, b"a,", 131_000)?;
+/// A list of so many of the piece.
+fn check_list(
+    rt: &impl Abort,
+    alloc: Global,
+    front: &[u8],
+    piece: &[u8],
+    count: usize,
+    back: &[u8],
+) -> Result<(), AllocError> {
+    let long = times(alloc, piece, count)?;
     check(
-        &rt,
+        rt,
         alloc,
-        &joined(alloc, &[b"int ", &long, b"a;"])?,
+        &joined(alloc, &[front, &long, back])?,
         Seen::Unit,
     );
     Ok(())
@@ -376,22 +382,12 @@ fn many_declarators_are_read(rt: HostRuntime) -> Result<(), Fail> {
 #[test]
 fn long_lists_are_read(rt: HostRuntime) -> Result<(), Fail> {
     let alloc = rt.alloc();
-    let lists: [(&[u8], &[u8], &[u8]); 5] = [
-        (b"", b"int a;", b""),
-        (b"int a[] = { ", b"1,", b"};"),
-        (b"f() { ", b"x;", b"}"),
-        (b"f() { int ", b"a,", b"a; }"),
-        (b"f() { g(", b"1,", b"1); }"),
-    ];
-    for (front, piece, back) in lists {
-        let long = times(alloc, piece, 32_768 / piece.len())?;
-        check(
-            &rt,
-            alloc,
-            &joined(alloc, &[front, &long, back])?,
-            Seen::Unit,
-        );
-    }
+    check_list(&rt, alloc, b"int ", b"a,", 131_000, b"a;")?;
+    check_list(&rt, alloc, b"", b"int a;", 5_000, b"")?;
+    check_list(&rt, alloc, b"int a[] = { ", b"1,", 16_000, b"};")?;
+    check_list(&rt, alloc, b"f() { ", b"x;", 16_000, b"}")?;
+    check_list(&rt, alloc, b"f() { int ", b"a,", 16_000, b"a; }")?;
+    check_list(&rt, alloc, b"f() { g(", b"1,", 16_000, b"1); }")?;
     Ok(())
 }
 
