@@ -208,6 +208,7 @@ large_answers words a o v end is reads long ends silent = asked_answers words a 
     may : (end ≡ TooLarge a.file) ⊎ (end ≡ Memory) → MayEnd a.file o end
     may (inl e) = rw e refl
     may (inr e) = rw e tt
+
     by_held : (held : Option Held) → ReadsFile held a.file 262145 (Ok v) → FilesAnswer a.file a.most held o end
     by_held None reads = may ends
     by_held (Some held) reads = large_file a.file a.most (held a.file) v o end reads long ends silent
@@ -237,6 +238,7 @@ absent_answers words a o end is reads ends silent = asked_answers words a o end 
     may : (end ≡ Absent a.file) ⊎ (end ≡ Memory) → MayEnd a.file o end
     may (inl e) = rw e refl
     may (inr e) = rw e tt
+
     by_held : (held : Option Held) → ReadsFile held a.file 262145 (Err fe.Absent) → FilesAnswer a.file a.most held o end
     by_held None reads = may ends
     by_held (Some held) reads = absent_file a.file a.most (held a.file) o end reads ends silent

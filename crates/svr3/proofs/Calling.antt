@@ -205,6 +205,7 @@ last_writes c m before = by_event (stepped c m).event
     by_call : (k : Called) → Stopped (performed before k) → output_of k ≡ []
     by_call (Ended s) stops = refl
     by_call (Returned cpu mem input output) stops = absurd stops
+
     by_event : (e : Event) → Stopped (followed (process c m before) e (stepped c m).cpu (stepped c m).mem) → written_at e (stepped c m).cpu (stepped c m).mem ≡ []
     by_event Next stops = absurd stops
     by_event Trap stops = refl

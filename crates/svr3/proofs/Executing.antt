@@ -54,18 +54,20 @@ stopped_moves a b d u v xs ys p q none =
 pub exits_at : (start : Process) (k most s : ℕ) (c : Cpu) (m : Space) (a b d : Option (List ℕ)) (u v : List ℕ) → Going start k c m a b u → suc k ≤ most
     → ((before : List ℕ) → advanced (process c m before) ≡ Exits s) → Moves b d u v (written c m)
     → StopsBefore start most a d v (halt.Exited s)
-exits_at start k most s c m a b d u v g within exits moved =
-    (g.output,
-    record { count = k; last = process c m g.output; ran_to = g.ran_to; exits = exits g.output; output_is = refl; within = within },
-    stopped_moves a b d u v g.output (written c m) g.moves moved (exit_last c m [] s (exits [])))
+exits_at start k most s c m a b d u v g within exits moved = (
+  g.output,
+  record { count = k; last = process c m g.output; ran_to = g.ran_to; exits = exits g.output; output_is = refl; within = within },
+  stopped_moves a b d u v g.output (written c m) g.moves moved (exit_last c m [] s (exits [])),
+)
 
 pub raises_at : (start : Process) (k most s : ℕ) (c : Cpu) (m : Space) (a b d : Option (List ℕ)) (u v : List ℕ) → Going start k c m a b u → suc k ≤ most
     → ((before : List ℕ) → advanced (process c m before) ≡ Raises s) → Moves b d u v (written c m)
     → StopsBefore start most a d v (halt.Raised s)
-raises_at start k most s c m a b d u v g within raises moved =
-    (g.output,
-    record { count = k; last = process c m g.output; ran_to = g.ran_to; raises = raises g.output; output_is = refl; within = within },
-    stopped_moves a b d u v g.output (written c m) g.moves moved (raise_last c m [] s (raises [])))
+raises_at start k most s c m a b d u v g within raises moved = (
+  g.output,
+  record { count = k; last = process c m g.output; ran_to = g.ran_to; raises = raises g.output; output_is = refl; within = within },
+  stopped_moves a b d u v g.output (written c m) g.moves moved (raise_last c m [] s (raises [])),
+)
 
 pub spent_at : (start : Process) (k most : ℕ) (c : Cpu) (m : Space) (a b : Option (List ℕ)) (u : List ℕ) → Going start k c m a b u → k ≡ most → StopsBefore start most a b u halt.Spent
 spent_at start k most c m a b u g all =

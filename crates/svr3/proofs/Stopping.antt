@@ -34,6 +34,7 @@ step_grows p q = by_event (stepped p.cpu p.mem).event (stepped p.cpu p.mem).cpu 
     by_call (Returned cpu mem input output) e =
         let is = goes_is record { cpu = cpu; mem = mem; input = input; output = p.output ++ output } q e in
         record { rest = output; whole_is = sym (ap (λ r. r.output) is) }
+
     by_event : (e : Event) (cpu : Cpu) (mem : Space) → followed p e cpu mem ≡ Goes q → Begins p.output q.output
     by_event Next cpu mem e =
         let is = goes_is record { cpu = cpu; mem = mem; input = p.input; output = p.output } q e in
@@ -101,6 +102,7 @@ before_last p last q k n x l e =
     past h =
         let split : n ≡ k + suc (n - suc k) = omega arith in
         no_more x q l.is_last (sym (ends_at p last k (n - suc k) x l) ∙ ap (λ j. ran j p) (sym split) ∙ e)
+
     onward : n ≤ k → ran (k - n) q ≡ Goes last
     onward h =
         let split : n + (k - n) ≡ k = omega arith in

@@ -3,7 +3,6 @@
 -- the form, and nothing for any other tree. Everything is an int.
 use Rattle.std.specs.Prelude.{ℕ, suc, ◌+◌, ◌-◌, ◌≡◌, ◌≤◌, nat_eq, List, [], ◌∷◌, ◌++◌, length, map, Bool, true, false, not, ◌&&◌, nat_le, Option, Some, None, option_map, position}
 use Rattle.std.specs.List.{list_all, list_any, flat_map}
-
 use Rattle.c_type.specs.Names.{Name, same_name, pick}
 use Rattle.c_type.specs.Tokens.{Token, Tok}
 use Rattle.c_type.specs.Tokens as k

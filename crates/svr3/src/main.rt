@@ -8,7 +8,6 @@ mod process;
 mod program;
 mod real;
 mod small_form;
-
 mod top;
 mod words;
 

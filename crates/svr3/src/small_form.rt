@@ -11,8 +11,8 @@ ghost use Rattle.svr3.specs.Given.{Gives};
 ghost use Rattle.svr3.specs.SmallForm as s;
 
 use c_tree::{
-    AssignOp, BinaryOp, Block, Declr, Expr, Ext, Init, Item, LocalDecl, Ref, Stmt, Storage, TBinary,
-    TBlock, TDeclr, TExpr, TFunc, TLocal, TLocalDecl, TStmt, TypeSpec, Unit,
+    AssignOp, BinaryOp, Block, Declr, Expr, Ext, Init, Item, LocalDecl, Ref, Stmt, Storage,
+    TBinary, TBlock, TDeclr, TExpr, TFunc, TLocal, TLocalDecl, TStmt, TypeSpec, Unit,
 };
 use c_type::{CType, Kind};
 use num_le::Name;
@@ -106,12 +106,7 @@ fn sum(alloc: Global, names: &[Name], e: &Expr) -> Result<TExpr, Fault>
             };
             let a = sum(alloc, names, a)?;
             let b = sum(alloc, names, b)?;
-            Ok(TExpr::Binary(
-                int(),
-                op,
-                Box::new(alloc, a)?,
-                Box::new(alloc, b)?,
-            ))
+            Ok(TExpr::Binary(int(), op, Box::new(alloc, a)?, Box::new(alloc, b)?))
         }
         Expr::Comma(..)
         | Expr::Assign(..)
@@ -217,12 +212,7 @@ fn check_line(line: u32) -> Result<(), Fault>
 }
 
 #[cycle(stmts)]
-fn stmts(
-    alloc: Global,
-    names: &[Name],
-    next: &mut u32,
-    list: &[Stmt],
-) -> Result<Vec<TStmt>, Fault>
+fn stmts(alloc: Global, names: &[Name], next: &mut u32, list: &[Stmt]) -> Result<Vec<TStmt>, Fault>
     requires few { length names.now ≤ 131072 }
     requires counted { next.old + s.stmts_starts (u.stmts_from list.now) ≤ 131072 }
     ensures typed { Gives (λ v. t.stmts_from v.items) result (s.stmts_in names.now next.old (u.stmts_from list.now)) }
@@ -271,12 +261,7 @@ fn stmt(alloc: Global, names: &[Name], next: &mut u32, one: &Stmt) -> Result<TSt
 
 // A block without declarations.
 #[cycle(stmts)]
-fn block(
-    alloc: Global,
-    names: &[Name],
-    next: &mut u32,
-    inner: &Block,
-) -> Result<TStmt, Fault>
+fn block(alloc: Global, names: &[Name], next: &mut u32, inner: &Block) -> Result<TStmt, Fault>
     requires few { length names.now ≤ 131072 }
     requires counted { next.old + s.stmts_starts (u.block_of inner.now).stmts ≤ 131072 }
     ensures typed { Gives t.stmt_of result (s.stmt_in names.now next.old (s.as_stmt (u.block_of inner.now))) }

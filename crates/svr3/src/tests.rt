@@ -89,9 +89,22 @@ fn the_value_of_main_is_the_status(rt: HostRuntime) -> Result<(), Fail> {
     let alloc = rt.alloc();
     assert_eq!(rt; status_of(&rt, alloc, b"main() { return 259; }")?, 3);
     assert_eq!(rt; status_of(&rt, alloc, b"main() { }")?, 0);
-    assert_eq!(rt; status_of(&rt, alloc, b"main() { return 0x10 - 02 - 1; }")?, 13);
-    assert_eq!(rt; status_of(&rt, alloc, b"main() { int a, b; b = 5; a = b - (b + 1); return a; }")?, 255);
-    assert_eq!(rt; status_of(&rt, alloc, b"main() { int a; { { a = 7; } } return (a); }")?, 7);
+    assert_eq!(rt;
+        status_of(&rt, alloc, b"main() { return 0x10 - 02 - 1; }")?,
+        13
+    );
+    assert_eq!(rt;
+        status_of(
+            &rt,
+            alloc,
+            b"main() { int a, b; b = 5; a = b - (b + 1); return a; }"
+        )?,
+        255
+    );
+    assert_eq!(rt;
+        status_of(&rt, alloc, b"main() { int a; { { a = 7; } } return (a); }")?,
+        7
+    );
     Ok(())
 }
 

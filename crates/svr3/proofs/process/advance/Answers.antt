@@ -12,11 +12,12 @@ pub returns-in_err-status-in-System-clause-writes :
     goal.returns-in_err-status-in-System-clause-writes
 returns-in_err-status-in-System-clause-writes g c =
     let p = err_from_is_err_and c.from_residual.result c.from_residual.ensures.1 in
-    rw (p.1) (λ before.
-    (process (cpu_behind c.step.new.cpu (called c.step.new.cpu c.step.new.mem [])) c.step.new.mem (before ++ written c.args.cpu.now c.args.memory.now),
-    system_goes c.args.cpu.now c.args.memory.now before _ c.step.new.cpu c.step.new.mem (sym c.step.ensures.event ∙ c.in-System.is) c.step.ensures.cpu c.step.ensures.mem
-    (sym c.in_err-status-in-System.ensures.returns) refl,
-    refl))
+    rw (p.1) (λ before. (
+      process (cpu_behind c.step.new.cpu (called c.step.new.cpu c.step.new.mem [])) c.step.new.mem (before ++ written c.args.cpu.now c.args.memory.now),
+      system_goes c.args.cpu.now c.args.memory.now before _ c.step.new.cpu c.step.new.mem (sym c.step.ensures.event ∙ c.in-System.is) c.step.ensures.cpu c.step.ensures.mem
+          (sym c.in_err-status-in-System.ensures.returns) refl,
+      refl,
+    ))
 
 pub returns-in_err-status-in-System-clause-front :
     goal.returns-in_err-status-in-System-clause-front
