@@ -8,13 +8,15 @@ use Rattle.c_lex.specs.Refusals as lex
 use Rattle.c_lex.specs.declared.LexErr.{LexErr}
 use Rattle.c_lex.specs.declared.LexErr.TheVariants as le
 use Rattle.c_parse.proofs.Joined as parse
-use Rattle.c_parse.specs.Refused as refused
+use Rattle.c_expr.specs.Answer.{OnNotC}
+use Rattle.c_parse.specs.Units.{IfTooDeep}
+use Rattle.c_tree.specs.declared.Unit as parsed
 use Rattle.c_expr.specs.declared.ParseErr.{ParseErr}
 use Rattle.c_expr.specs.declared.ParseErr.TheVariants as pe
 use Rattle.c_tree.specs.TreeUnit as tu
 use Rattle.c_tree.specs.TypedOf.{func_of}
 use Rattle.c_tree.specs.declared.TFunc.{TFunc}
-use Rattle.c_tree.specs.Reads.{ReadsTokens}
+use Rattle.c_tree.specs.Reads.{ReadsTokens, AreShallow}
 use Rattle.c_tree.specs.TUnit.{Func}
 use Rattle.c_tree.specs.Context.{linked}
 use Rattle.isa386.specs.Encoding.{encoding}
@@ -41,10 +43,10 @@ lex_refused text (le.NumberTooLarge l) f is refuses = rw is (bad_text text (le.N
 lex_refused text le.Memory f is refuses = rw is tt
 
 -- tokens that are refused spell no unit
-pub parse_refused : (ts : List Token) (e : ParseErr) (f : Fault) → f ≡ parse_fault_of e → refused.Refuses e ts → Parses ts (Err f)
-parse_refused ts (pe.TooDeep line) f is refuses = rw is (λ u reads. refuses reads.shallow)
-parse_refused ts (pe.NotC line) f is refuses = rw is refuses
-parse_refused ts pe.Memory f is refuses = rw is tt
+pub parse_refused : (ts : List Token) (e : ParseErr) (f : Fault) → f ≡ parse_fault_of e → OnNotC {A = parsed.Unit} (Err e) ((u : tu.Unit) → ReadsTokens ts u → ⊥) → IfTooDeep {A = parsed.Unit} (Err e) (λ line. AreShallow 0 ts → ⊥) → Parses ts (Err f)
+parse_refused ts (pe.TooDeep line) f is none deep = rw is (λ u reads. deep reads.shallow)
+parse_refused ts (pe.NotC line) f is none deep = rw is none
+parse_refused ts pe.Memory f is none deep = rw is tt
 
 pub many_tokens : (ts : List Token) → are_few 0 ts ≡ false → (f : Func) → AreSmallTokens ts f → ⊥
 many_tokens ts many f s = let e : true ≡ false = sym s.few ∙ many in cc
