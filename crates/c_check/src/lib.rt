@@ -2,13 +2,14 @@
 //!
 //! Between the rules, which are relations, and a checker stands a typing function on trees. Three
 //! laws join them, each the contract of a function that does nothing. The checker itself isn't
-//! written yet: of its code stand types, values and the operators of two operands that ask for no
-//! constant, each exact by the rule of its name.
+//! written yet: of its code stand types, values and the operators that ask for no constant, each
+//! exact by the rule of its name.
 #![tactic(auto)]
 
 mod error;
 mod operators;
 mod types;
+mod unary;
 mod values;
 
 ghost use Rattle.c_check.specs.Laws.{IsSound, IsComplete, IsRefused};
