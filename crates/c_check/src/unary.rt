@@ -17,7 +17,10 @@ use std::alloc::Global;
 fn is_variable(name: &Ref) -> bool
     ensures { result ≡ v.is_variable (ref_of name.now) }
 {
-    matches!(name, Ref::Local(_) | Ref::Param(_) | Ref::Static(_) | Ref::Ext(_))
+    matches!(
+        name,
+        Ref::Local(_) | Ref::Param(_) | Ref::Static(_) | Ref::Ext(_)
+    )
 }
 
 /// Whether an expression names an object.
