@@ -111,7 +111,12 @@ fn the_value_of_main_is_the_status(rt: HostRuntime) -> Result<(), Fail> {
 #[test]
 fn a_loop_without_end_spends_its_budget(rt: HostRuntime) -> Result<(), Fail> {
     let alloc = rt.alloc();
-    let list = [b"run".as_slice(), b"-n", b"1000", b"one.c"];
+    let list = [
+        b"run".as_slice(),
+        b"-n".as_slice(),
+        b"1000".as_slice(),
+        b"one.c".as_slice(),
+    ];
     let words = words_of(alloc, &list)?;
     let call = Call {
         words: &words,
@@ -141,37 +146,38 @@ fn a_million_bytes_are_written(rt: HostRuntime) -> Result<(), Fail> {
     Ok(())
 }
 
+// A text that isn't of the small form.
+fn is_refused(rt: &impl Abort, alloc: Global, text: &[u8]) -> Result<(), Fail> {
+    let words = run_file(alloc)?;
+    let call = Call {
+        words: &words,
+        text,
+        read_fails: &[],
+        write_fails: &[],
+    };
+    let end = end_of(rt, alloc, &call, b"", b"svr3: refused: unbuilt\n")?;
+    assert!(rt; matches!(end, End::Refused(Refusal::Unbuilt)));
+    assert_eq!(rt; status(&end), 4);
+    Ok(())
+}
+
 #[test]
 fn another_text_is_refused(rt: HostRuntime) -> Result<(), Fail> {
     let alloc = rt.alloc();
-    let words = run_file(alloc)?;
-    let texts = [
-        b"main() { return x; }".as_slice(),
-        b"main() { int x, x; return 1; }",
-        b"main() { int putchar; return 1; }",
-        b"main() { ; return 1; }",
-        b"main() { int x; x = 1 * 2; return x; }",
-        b"main() { return 2147483648; }",
-        b"main() { return 1l; }",
-        b"main() { { int x; } return 1; }",
-        b"main() { return; }",
-        b"main(a) { return 1; }",
-        b"int main() { return 1; }",
-        b"main() { return 7; } /*/",
-        b"main() { return 7; } int x;",
-        b"",
-    ];
-    for text in texts {
-        let call = Call {
-            words: &words,
-            text,
-            read_fails: &[],
-            write_fails: &[],
-        };
-        let end = end_of(&rt, alloc, &call, b"", b"svr3: refused: unbuilt\n")?;
-        assert!(rt; matches!(end, End::Refused(Refusal::Unbuilt)));
-        assert_eq!(rt; status(&end), 4);
-    }
+    is_refused(&rt, alloc, b"main() { return x; }")?;
+    is_refused(&rt, alloc, b"main() { int x, x; return 1; }")?;
+    is_refused(&rt, alloc, b"main() { int putchar; return 1; }")?;
+    is_refused(&rt, alloc, b"main() { ; return 1; }")?;
+    is_refused(&rt, alloc, b"main() { int x; x = 1 * 2; return x; }")?;
+    is_refused(&rt, alloc, b"main() { return 2147483648; }")?;
+    is_refused(&rt, alloc, b"main() { return 1l; }")?;
+    is_refused(&rt, alloc, b"main() { { int x; } return 1; }")?;
+    is_refused(&rt, alloc, b"main() { return; }")?;
+    is_refused(&rt, alloc, b"main(a) { return 1; }")?;
+    is_refused(&rt, alloc, b"int main() { return 1; }")?;
+    is_refused(&rt, alloc, b"main() { return 7; } /*/")?;
+    is_refused(&rt, alloc, b"main() { return 7; } int x;")?;
+    is_refused(&rt, alloc, b"")?;
     Ok(())
 }
 
@@ -192,17 +198,10 @@ fn bracketed(alloc: Global, count: usize) -> Result<Vec<u8>, Fail> {
 #[test]
 fn sixty_two_brackets_may_be_open(rt: HostRuntime) -> Result<(), Fail> {
     let alloc = rt.alloc();
-    let words = run_file(alloc)?;
     let inside = bracketed(alloc, 62)?;
     assert_eq!(rt; status_of(&rt, alloc, &inside)?, 7);
     let beyond = bracketed(alloc, 63)?;
-    let call = Call {
-        words: &words,
-        text: &beyond,
-        read_fails: &[],
-        write_fails: &[],
-    };
-    end_of(&rt, alloc, &call, b"", b"svr3: refused: unbuilt\n")?;
+    is_refused(&rt, alloc, &beyond)?;
     Ok(())
 }
 
@@ -245,30 +244,44 @@ fn each_fault_has_its_line(rt: HostRuntime) -> Result<(), Fail> {
     Ok(())
 }
 
+// Words that ask for nothing.
+fn is_usage(rt: &impl Abort, alloc: Global, list: &[&[u8]]) -> Result<(), Fail> {
+    let words = words_of(alloc, list)?;
+    let call = Call {
+        words: &words,
+        text: COUNTDOWN,
+        read_fails: &[],
+        write_fails: &[],
+    };
+    let end = end_of(rt, alloc, &call, b"", b"svr3: usage\n")?;
+    assert_eq!(rt; status(&end), 2);
+    Ok(())
+}
+
+// `run -n number one.c`.
+fn with_number(rt: &impl Abort, alloc: Global, number: &[u8]) -> Result<(), Fail> {
+    is_usage(
+        rt,
+        alloc,
+        &[
+            b"run".as_slice(),
+            b"-n".as_slice(),
+            number,
+            b"one.c".as_slice(),
+        ],
+    )
+}
+
 #[test]
 fn other_words_are_usage(rt: HostRuntime) -> Result<(), Fail> {
     let alloc = rt.alloc();
-    let lists = [
-        [b"run".as_slice(), b"-n", b"0", b"one.c"],
-        [b"run".as_slice(), b"-n", b"01", b"one.c"],
-        [b"run".as_slice(), b"-n", b"+1", b"one.c"],
-        [b"run".as_slice(), b"-n", b"9223372036854775808", b"one.c"],
-        [b"run".as_slice(), b"one.c", b"-n", b"1"],
-        [b"run".as_slice(), b"-i", b"1", b"one.c"],
-        [b"sdb".as_slice(), b"-n", b"1", b"one.c"],
-        [b"run".as_slice(), b"-n", b"1", b"one.h"],
-    ];
-    for list in lists {
-        let words = words_of(alloc, &list)?;
-        let call = Call {
-            words: &words,
-            text: COUNTDOWN,
-            read_fails: &[],
-            write_fails: &[],
-        };
-        let end = end_of(&rt, alloc, &call, b"", b"svr3: usage\n")?;
-        assert_eq!(rt; status(&end), 2);
-    }
+    with_number(&rt, alloc, b"0")?;
+    with_number(&rt, alloc, b"01")?;
+    with_number(&rt, alloc, b"+1")?;
+    with_number(&rt, alloc, b"9223372036854775808")?;
+    is_usage(&rt, alloc, &[b"run".as_slice()])?;
+    is_usage(&rt, alloc, &[b"run".as_slice(), b"one.h".as_slice()])?;
+    is_usage(&rt, alloc, &[b"sdb".as_slice(), b"one.c".as_slice()])?;
     Ok(())
 }
 
