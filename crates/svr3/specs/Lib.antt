@@ -1,9 +1,6 @@
-pub mod Output
-pub mod Process
-pub mod SmallForm
-pub mod Given
+pub mod Text
+pub mod Reading
 pub mod Command
-pub mod Started
-pub mod Compiled
 pub mod Answer
-pub mod Ended
+pub mod Code
+pub mod Run

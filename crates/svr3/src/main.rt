@@ -3,11 +3,8 @@
 
 mod answer;
 mod machine;
-mod output;
-mod process;
-mod program;
 mod real;
-mod small_form;
+mod text;
 mod top;
 mod words;
 

@@ -1,5 +1,0 @@
-pub mod ReadStmt
-pub mod ReadUnit
-pub mod Words
-pub mod Units
-pub mod Laws
