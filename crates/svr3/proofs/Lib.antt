@@ -1,5 +1,14 @@
 pub mod Digits
-pub mod White
-pub mod Accepting
+pub mod Worded
+pub mod Sending
+pub mod Calling
+pub mod Executing
+pub mod Stopping
+pub mod SmallTrees
+pub mod Shaped
+pub mod Tokened
+pub mod UnitFits
+pub mod MainFits
+pub mod Compiling
+pub mod Ending
 pub mod Answering
-pub mod Running

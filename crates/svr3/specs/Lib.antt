@@ -1,6 +1,9 @@
-pub mod Text
-pub mod Reading
+pub mod Output
+pub mod Process
+pub mod SmallForm
+pub mod Given
 pub mod Command
+pub mod Started
+pub mod Compiled
 pub mod Answer
-pub mod Code
-pub mod Run
+pub mod Ended

@@ -3,8 +3,11 @@
 
 mod answer;
 mod machine;
+mod output;
+mod process;
+mod program;
 mod real;
-mod text;
+mod small_form;
 mod top;
 mod words;
 

@@ -8,93 +8,294 @@ use std::alloc::Global;
 use std::process::Abort;
 use std::test::Fail;
 
-// Does what the words ask for over `one.c` with this text, where these calls of the files fail, and
-// checks the line that is told and that nothing is written.
-fn call(
+// What a call over `one.c` is made of: its words, the text, the calls of the files that fail, and those of the output.
+struct Call<'a> {
+    words: &'a Words,
+    text: &'a [u8],
+    read_fails: &'a [u32],
+    write_fails: &'a [u32],
+}
+
+// The end of a call, whose output and line are compared.
+fn end_of(
     rt: &impl Abort,
     alloc: Global,
-    words: &Words,
-    text: &[u8],
-    fail: &[u32],
+    call: &Call<'_>,
+    output: &[u8],
     line: &[u8],
 ) -> Result<End, Fail> {
     let mut list = Vec::new(alloc);
-    list.push((Name::of(alloc, b"one.c")?, text.to_vec(alloc)?))?;
-    let mut files = MemFiles::new(alloc, list, fail.to_vec(alloc)?);
+    list.push((Name::of(alloc, b"one.c")?, call.text.to_vec(alloc)?))?;
+    let mut files = MemFiles::new(alloc, list, call.read_fails.to_vec(alloc)?);
     let mut commands = MemSource::new(Vec::new(alloc), Vec::new(alloc));
-    let mut out = MemSink::new(alloc, 100, Vec::new(alloc))?;
+    let mut out = MemSink::new(alloc, output.len(), call.write_fails.to_vec(alloc)?)?;
     let mut err = MemSink::new(alloc, 100, Vec::new(alloc))?;
-    let end = svr3(alloc, words, &mut files, &mut commands, &mut out, &mut err);
+    let end = svr3(
+        alloc,
+        call.words,
+        &mut files,
+        &mut commands,
+        &mut out,
+        &mut err,
+    );
     assert_eq!(rt; err.bytes(), line);
-    assert!(rt; out.bytes().is_empty());
+    assert!(rt; out.bytes() == output);
     Ok(end)
 }
 
-fn run_file(alloc: Global, name: &[u8]) -> Result<Words, Fail> {
+fn words_of(alloc: Global, list: &[&[u8]]) -> Result<Words, Fail> {
     let mut words = Words::new(alloc);
-    words.push(b"run")?;
-    words.push(name)?;
+    for word in list {
+        words.push(word)?;
+    }
     Ok(words)
 }
 
+fn run_file(alloc: Global) -> Result<Words, Fail> {
+    words_of(alloc, &[b"run".as_slice(), b"one.c".as_slice()])
+}
+
+// The status of a text without output.
+fn status_of(rt: &impl Abort, alloc: Global, text: &[u8]) -> Result<u8, Fail> {
+    let words = run_file(alloc)?;
+    let call = Call {
+        words: &words,
+        text,
+        read_fails: &[],
+        write_fails: &[],
+    };
+    Ok(status(&end_of(rt, alloc, &call, b"", b"")?))
+}
+
+const COUNTDOWN: &[u8] =
+    b"main() { int n; n = 3; while (n) { putchar(96 + n); n = n - 1; } return n; }";
+
 #[test]
-fn the_number_is_the_status(rt: HostRuntime) -> Result<(), Fail> {
-    let words = run_file(rt.alloc(), b"one.c")?;
-    let end = call(&rt, rt.alloc(), &words, b"main() { return 7; }", &[], b"")?;
-    assert!(rt; matches!(end, End::Ran(7)));
-    let end = call(&rt, rt.alloc(), &words, b"main() { return 259; }", &[], b"")?;
-    assert_eq!(rt; status(&end), 3);
+fn a_loop_writes_its_letters(rt: HostRuntime) -> Result<(), Fail> {
+    let words = run_file(rt.alloc())?;
+    let call = Call {
+        words: &words,
+        text: COUNTDOWN,
+        read_fails: &[],
+        write_fails: &[],
+    };
+    let end = end_of(&rt, rt.alloc(), &call, b"cba", b"")?;
+    assert!(rt; matches!(end, End::Ran(0)));
     Ok(())
 }
 
 #[test]
-fn a_comment_stands_for_a_blank(rt: HostRuntime) -> Result<(), Fail> {
-    let words = run_file(rt.alloc(), b"one.c")?;
-    let text = b"/* **/main\t(/*a*/)\r\n{return/***/2147483647\n;\x0b}\x0c/* / */";
-    let end = call(&rt, rt.alloc(), &words, text, &[], b"")?;
-    assert_eq!(rt; status(&end), 255);
+fn the_value_of_main_is_the_status(rt: HostRuntime) -> Result<(), Fail> {
+    let alloc = rt.alloc();
+    assert_eq!(rt; status_of(&rt, alloc, b"main() { return 259; }")?, 3);
+    assert_eq!(rt; status_of(&rt, alloc, b"main() { }")?, 0);
+    assert_eq!(rt;
+        status_of(&rt, alloc, b"main() { return 0x10 - 02 - 1; }")?,
+        13
+    );
+    assert_eq!(rt;
+        status_of(
+            &rt,
+            alloc,
+            b"main() { int a, b; b = 5; a = b - (b + 1); return a; }"
+        )?,
+        255
+    );
+    assert_eq!(rt;
+        status_of(&rt, alloc, b"main() { int a; { { a = 7; } } return (a); }")?,
+        7
+    );
+    Ok(())
+}
+
+#[test]
+fn a_loop_without_end_spends_its_budget(rt: HostRuntime) -> Result<(), Fail> {
+    let alloc = rt.alloc();
+    let list = [
+        b"run".as_slice(),
+        b"-n".as_slice(),
+        b"1000".as_slice(),
+        b"one.c".as_slice(),
+    ];
+    let words = words_of(alloc, &list)?;
+    let call = Call {
+        words: &words,
+        text: b"main() { int x; while (1) x = x; }",
+        read_fails: &[],
+        write_fails: &[],
+    };
+    let end = end_of(&rt, alloc, &call, b"", b"svr3: budget\n")?;
+    assert!(rt; matches!(end, End::Budget));
+    assert_eq!(rt; status(&end), 7);
+    Ok(())
+}
+
+#[test]
+fn a_million_bytes_are_written(rt: HostRuntime) -> Result<(), Fail> {
+    let alloc = rt.alloc();
+    let words = run_file(alloc)?;
+    let output = vec![in alloc; b'.'; 1_000_000]?;
+    let call = Call {
+        words: &words,
+        text: b"main() { int n; n = 1000000; while (n) { putchar(46); n = n - 1; } return 9; }",
+        read_fails: &[],
+        write_fails: &[],
+    };
+    let end = end_of(&rt, alloc, &call, &output, b"")?;
+    assert!(rt; matches!(end, End::Ran(9)));
+    Ok(())
+}
+
+// A text that isn't of the small form.
+fn is_refused(rt: &impl Abort, alloc: Global, text: &[u8]) -> Result<(), Fail> {
+    let words = run_file(alloc)?;
+    let call = Call {
+        words: &words,
+        text,
+        read_fails: &[],
+        write_fails: &[],
+    };
+    let end = end_of(rt, alloc, &call, b"", b"svr3: refused: unbuilt\n")?;
+    assert!(rt; matches!(end, End::Refused(Refusal::Unbuilt)));
+    assert_eq!(rt; status(&end), 4);
     Ok(())
 }
 
 #[test]
 fn another_text_is_refused(rt: HostRuntime) -> Result<(), Fail> {
-    let words = run_file(rt.alloc(), b"one.c")?;
-    let line = b"svr3: refused: unbuilt\n";
-    let end = call(&rt, rt.alloc(), &words, b"main() { return x; }", &[], line)?;
-    assert!(rt; matches!(end, End::Refused(Refusal::Unbuilt)));
-    assert_eq!(rt; status(&end), 4);
-    call(&rt, rt.alloc(), &words, b"main() { return 07; }", &[], line)?;
-    call(
-        &rt,
-        rt.alloc(),
-        &words,
-        b"main() { return 2147483648; }",
-        &[],
-        line,
-    )?;
-    call(
-        &rt,
-        rt.alloc(),
-        &words,
-        b"main() { return 7; } /*/",
-        &[],
-        line,
-    )?;
+    let alloc = rt.alloc();
+    is_refused(&rt, alloc, b"main() { return x; }")?;
+    is_refused(&rt, alloc, b"main() { int x, x; return 1; }")?;
+    is_refused(&rt, alloc, b"main() { int putchar; return 1; }")?;
+    is_refused(&rt, alloc, b"main() { ; return 1; }")?;
+    is_refused(&rt, alloc, b"main() { int x; x = 1 * 2; return x; }")?;
+    is_refused(&rt, alloc, b"main() { return 2147483648; }")?;
+    is_refused(&rt, alloc, b"main() { return 1l; }")?;
+    is_refused(&rt, alloc, b"main() { { int x; } return 1; }")?;
+    is_refused(&rt, alloc, b"main() { return; }")?;
+    is_refused(&rt, alloc, b"main(a) { return 1; }")?;
+    is_refused(&rt, alloc, b"int main() { return 1; }")?;
+    is_refused(&rt, alloc, b"main() { return 7; } /*/")?;
+    is_refused(&rt, alloc, b"main() { return 7; } int x;")?;
+    is_refused(&rt, alloc, b"")?;
+    Ok(())
+}
+
+// `main() { return ((..7..)); }` with so many brackets.
+fn bracketed(alloc: Global, count: usize) -> Result<Vec<u8>, Fail> {
+    let mut text = b"main() { return ".to_vec(alloc)?;
+    for _ in 0..count {
+        text.push(b'(')?;
+    }
+    text.push(b'7')?;
+    for _ in 0..count {
+        text.push(b')')?;
+    }
+    text.extend_from_slice(b"; }")?;
+    Ok(text)
+}
+
+#[test]
+fn sixty_two_brackets_may_be_open(rt: HostRuntime) -> Result<(), Fail> {
+    let alloc = rt.alloc();
+    let inside = bracketed(alloc, 62)?;
+    assert_eq!(rt; status_of(&rt, alloc, &inside)?, 7);
+    let beyond = bracketed(alloc, 63)?;
+    is_refused(&rt, alloc, &beyond)?;
     Ok(())
 }
 
 #[test]
-fn each_other_end_has_its_line(rt: HostRuntime) -> Result<(), Fail> {
+fn a_file_has_its_limit(rt: HostRuntime) -> Result<(), Fail> {
     let alloc = rt.alloc();
-    let text = b"main() { return 0; }";
-    let words = run_file(alloc, b"one.c")?;
-    let end = call(&rt, alloc, &words, text, &[0], b"svr3: read fault\n")?;
-    assert_eq!(rt; status(&end), 6);
-    let words = run_file(alloc, b"no.c")?;
-    let end = call(&rt, alloc, &words, text, &[], b"svr3: absent: no.c\n")?;
+    let words = run_file(alloc)?;
+    let text = vec![in alloc; b' '; 262_145]?;
+    let call = Call {
+        words: &words,
+        text: &text,
+        read_fails: &[],
+        write_fails: &[],
+    };
+    let end = end_of(&rt, alloc, &call, b"", b"svr3: too large: one.c\n")?;
     assert_eq!(rt; status(&end), 3);
-    let words = run_file(alloc, b"one.h")?;
-    let end = call(&rt, alloc, &words, text, &[], b"svr3: usage\n")?;
+    Ok(())
+}
+
+#[test]
+fn each_fault_has_its_line(rt: HostRuntime) -> Result<(), Fail> {
+    let alloc = rt.alloc();
+    let words = run_file(alloc)?;
+    let read = Call {
+        words: &words,
+        text: COUNTDOWN,
+        read_fails: &[0],
+        write_fails: &[],
+    };
+    let end = end_of(&rt, alloc, &read, b"", b"svr3: read fault\n")?;
+    assert_eq!(rt; status(&end), 6);
+    let write = Call {
+        words: &words,
+        text: COUNTDOWN,
+        read_fails: &[],
+        write_fails: &[0],
+    };
+    let end = end_of(&rt, alloc, &write, b"", b"svr3: write fault\n")?;
+    assert_eq!(rt; status(&end), 6);
+    Ok(())
+}
+
+// Words that ask for nothing.
+fn is_usage(rt: &impl Abort, alloc: Global, list: &[&[u8]]) -> Result<(), Fail> {
+    let words = words_of(alloc, list)?;
+    let call = Call {
+        words: &words,
+        text: COUNTDOWN,
+        read_fails: &[],
+        write_fails: &[],
+    };
+    let end = end_of(rt, alloc, &call, b"", b"svr3: usage\n")?;
     assert_eq!(rt; status(&end), 2);
+    Ok(())
+}
+
+// `run -n number one.c`.
+fn with_number(rt: &impl Abort, alloc: Global, number: &[u8]) -> Result<(), Fail> {
+    is_usage(
+        rt,
+        alloc,
+        &[
+            b"run".as_slice(),
+            b"-n".as_slice(),
+            number,
+            b"one.c".as_slice(),
+        ],
+    )
+}
+
+#[test]
+fn other_words_are_usage(rt: HostRuntime) -> Result<(), Fail> {
+    let alloc = rt.alloc();
+    with_number(&rt, alloc, b"0")?;
+    with_number(&rt, alloc, b"01")?;
+    with_number(&rt, alloc, b"+1")?;
+    with_number(&rt, alloc, b"9223372036854775808")?;
+    is_usage(&rt, alloc, &[b"run".as_slice()])?;
+    is_usage(&rt, alloc, &[b"run".as_slice(), b"one.h".as_slice()])?;
+    is_usage(&rt, alloc, &[b"sdb".as_slice(), b"one.c".as_slice()])?;
+    Ok(())
+}
+
+#[test]
+fn a_file_may_be_absent(rt: HostRuntime) -> Result<(), Fail> {
+    let alloc = rt.alloc();
+    let words = words_of(alloc, &[b"run".as_slice(), b"no.c".as_slice()])?;
+    let call = Call {
+        words: &words,
+        text: COUNTDOWN,
+        read_fails: &[],
+        write_fails: &[],
+    };
+    let end = end_of(&rt, alloc, &call, b"", b"svr3: absent: no.c\n")?;
+    assert_eq!(rt; status(&end), 3);
     Ok(())
 }

@@ -1,11 +1,14 @@
 // The top call.
-ghost use Rattle.std.specs.Prelude.{◌≡◌, ◌⊎◌};
-ghost use Rattle.svr3.specs.Answer.{Answers, GainsLine, IsNamed, IsOrMemory, line_of, end_of_text};
+ghost use Rattle.std.specs.Prelude.{◌≡◌, ◌≤◌, ◌⊎◌, length};
+ghost use Rattle.svr3.specs.Answer.{Answers, GainsLine, IsNamed, IsOrMemory, line_of, end_of, outside};
+ghost use Rattle.svr3.specs.Ended.{EndsCode, EndsText};
 
 use crate::answer::{End, Refusal, named_line};
-use crate::machine::execute;
-use crate::text::program;
-use crate::words::{Words, file_of};
+use crate::machine::{Stuck, run_text};
+use crate::process::Halt;
+use crate::program::text_of;
+use crate::small_form::Fault;
+use crate::words::{Words, asked};
 use num_le::Name;
 use outside::{FileErr, Files, Sink, Source, put_all};
 use std::alloc::Global;
@@ -13,19 +16,36 @@ use std::alloc::Global;
 // The limit of a source file, in bytes.
 const MOST: usize = 262_144;
 
-// The end of a text, or want of memory.
-fn answer(alloc: Global, text: &[u8]) -> End
-    ensures { (result ≡ end_of_text text.now) ⊎ (result ≡ End.Memory) }
+// The end where a process has stopped.
+fn stopped(halt: Halt) -> End
+    ensures { result ≡ end_of halt }
 {
-    if text.len() > MOST {
-        return End::Refused(Refusal::Unbuilt);
+    match halt {
+        Halt::Exited(status) => End::Ran(status),
+        Halt::Raised(signal) => End::Signalled(signal),
+        Halt::Spent => End::Budget,
     }
-    match program(text) {
-        None => End::Refused(Refusal::Unbuilt),
-        Some(n) => match execute(alloc, n) {
-            Ok(status) => End::Ran(status),
-            Err(_) => End::Memory,
-        },
+}
+
+// The end of the program of these bytes of .text.
+fn run_code<S: Sink>(alloc: Global, code: &[u8], most: u64, out: &mut S) -> End
+    requires fits { length code.now ≤ 4128768 }
+    ensures end { EndsCode code.now most (S.held out.old) (S.held out.new) (S.faults out.old) (S.faults out.new) result }
+{
+    match run_text(alloc, code, most, out) {
+        Ok(halt) => stopped(halt),
+        Err(Stuck::WriteFault) => End::WriteFault,
+        Err(Stuck::Memory) => End::Memory,
+    }
+}
+
+// The end with the name of a file, or want of memory.
+fn too_large(alloc: Global, name: &[u8]) -> End
+    ensures { (result ≡ End.TooLarge name.now) ⊎ (result ≡ End.Memory) }
+{
+    match Name::of(alloc, name) {
+        Ok(name) => End::TooLarge(name),
+        Err(_) => End::Memory,
     }
 }
 
@@ -39,17 +59,35 @@ fn absent(alloc: Global, name: &[u8]) -> End
     }
 }
 
+// Runs the program of a text within the limit.
+fn run_program<S: Sink>(alloc: Global, text: &[u8], most: u64, out: &mut S) -> End
+    ensures end { EndsText text.now most (S.held out.old) (S.held out.new) (S.faults out.old) (S.faults out.new) result }
+{
+    match text_of(alloc, text) {
+        Ok(code) => run_code(alloc, &code, most, out),
+        Err(Fault::Unbuilt) => End::Refused(Refusal::Unbuilt),
+        Err(Fault::Memory) => End::Memory,
+    }
+}
+
 // Runs the file of these words.
-fn run<F: Files>(alloc: Global, words: &Words, files: &mut F) -> End
-    ensures answer { Answers words.now (F.held files.old) (F.faults files.old) (F.faults files.new) result }
+fn run<F: Files, S: Sink>(alloc: Global, words: &Words, files: &mut F, out: &mut S) -> End
+    ensures answer { Answers words.now (outside (F.held files.old) (F.faults files.old) (F.faults files.new) (S.held out.old) (S.held out.new) (S.faults out.old) (S.faults out.new)) result }
     ensures unchanged { F.held files.new ≡ F.held files.old }
 {
-    let Some(name) = file_of(words) else {
+    let Some(asked) = asked(words) else {
         return End::Usage;
     };
-    match files.read(alloc, name, MOST + 1) {
-        Ok(text) => answer(alloc, &text),
-        Err(FileErr::Absent) => absent(alloc, name),
+    match files.read(alloc, asked.file, MOST + 1) {
+        Ok(text) => {
+            let bytes = text.as_slice();
+            if bytes.len() > MOST {
+                too_large(alloc, asked.file)
+            } else {
+                run_program(alloc, bytes, asked.most, out)
+            }
+        }
+        Err(FileErr::Absent) => absent(alloc, asked.file),
         Err(FileErr::Failed) => End::ReadFault,
         Err(FileErr::Memory) => End::Memory,
     }
@@ -117,13 +155,15 @@ fn told<E: Sink>(alloc: Global, end: End, err: &mut E) -> End
     }
 }
 
-/// Does what these words ask for: `run` and the name of one C file compiles the file and runs the
-/// program on the 386.
+/// Does what these words ask for: `run`, an optional `-n` with its number, and the name of one C file
+/// compiles the file and runs the program on the 386. Its output goes to `out`.
 ///
-/// The end is `Usage` exactly where the words aren't those two, `Absent` exactly where there is no such
-/// file, `ReadFault` only where a read failed, `Refused` exactly where the file has more than 262,144
-/// bytes or isn't `main ( ) { return N ; }`, and otherwise `Ran` with N modulo 256. Want of memory may
-/// stand for each of these but `Usage`. `err` gains the line of the end.
+/// The end is `Usage` exactly where the words aren't these, `Absent` exactly where there is no such
+/// file, `TooLarge` exactly where the file has more than 262,144 bytes, `Refused` exactly where its text
+/// isn't of the small form, and otherwise how the program stops on the machine: `Ran` with its status,
+/// or `Budget` where it has executed the number of instructions that `-n` gives, 100,000,000 without.
+/// `ReadFault` and `WriteFault` come only where a read or a write failed. Want of memory may stand for
+/// each of these but `Usage`. `err` gains the line of the end.
 pub fn svr3<F: Files, C: Source, S: Sink, E: Sink>(
     alloc: Global,
     words: &Words,
@@ -132,12 +172,11 @@ pub fn svr3<F: Files, C: Source, S: Sink, E: Sink>(
     out: &mut S,
     err: &mut E,
 ) -> End
-    ensures answer { Answers words.now (F.held files.old) (F.faults files.old) (F.faults files.new) result }
+    ensures answer { Answers words.now (outside (F.held files.old) (F.faults files.old) (F.faults files.new) (S.held out.old) (S.held out.new) (S.faults out.old) (S.faults out.new)) result }
     ensures files { F.held files.new ≡ F.held files.old }
     ensures commands { C.left commands.new ≡ C.left commands.old }
-    ensures out { S.held out.new ≡ S.held out.old }
     ensures line { GainsLine (E.held err.old) (E.held err.new) (E.faults err.old) (E.faults err.new) (line_of result) }
 {
-    let end = run(alloc, words, files);
+    let end = run(alloc, words, files, out);
     told(alloc, end, err)
 }

@@ -1,0 +1,29 @@
+use Rattle.std.proofs.Common.{sym}
+use Rattle.std.proofs.lemmas.List.{map-append}
+use Rattle.std.proofs.lemmas.Result.{err_from_is_err_and}
+use Rattle.c_tree.specs.Reads.{most}
+use Rattle.c_decl.specs.Answers.{names, rest}
+use Rattle.c_decl.specs.Expression.{expression}
+use Rattle.c_decl.specs.ReadSpecs.{en}
+use Rattle.c_decl.proofs.Members.{begins, failed, ends, goes_on, runs_out}
+use Rattle.c_decl.proofs.reader.Reader.ens.Goals as goal
+
+pub loop-turn-init : goal.loop-turn-init
+loop-turn-init c = rw (c.new-ens.ensures.items) (begins (en (names c.args.self.now) most (expression (names c.args.self.now))) c.left-turn-end.result (rest c.args.self.now c.args.at))
+
+pub returns-in_err-en : goal.returns-in_err-en
+returns-in_err-en c =
+    let p = err_from_is_err_and c.from_residual.result c.from_residual.ensures.1 in
+    rw (← c.left-turn-end.ensures.count) (failed (en (names c.args.self.now) most (expression (names c.args.self.now))) _ _ _ _ _ _ _ _ _ p.1 p.2 c.loop-turn-test.true c.loop-turn.invariant c.in_err-en.ensures)
+
+pub returns-in-None : goal.returns-in-None
+returns-in-None c =
+    let last = ends (en (names c.args.self.now) most (expression (names c.args.self.now))) _ _ _ _ _ _ _ c.loop-turn-test.true c.loop-turn.invariant c.in_ok-en.ensures (sym c.in-None.ensures.place) in
+    rw (← c.left-turn-end.ensures.count, c.in_ok-push.ensures.items, map-append) last
+
+pub loop-turn-preserved : goal.loop-turn-preserved
+loop-turn-preserved c =
+    rw (c.in_ok-push.ensures.items, map-append) (goes_on (en (names c.args.self.now) most (expression (names c.args.self.now))) _ _ _ _ _ _ _ _ c.loop-turn-test.true c.loop-turn.invariant c.in_ok-en.ensures (sym c.in-Some.ensures.place))
+
+pub returns : goal.returns
+returns c = rw (c.refusal.ensures, ← c.left-turn-end.ensures.count) (runs_out (en (names c.args.self.now) most (expression (names c.args.self.now))) _ _ _ _ _ c.loop-turn-test.false c.loop-turn.invariant)

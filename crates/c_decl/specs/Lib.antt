@@ -1,0 +1,12 @@
+pub mod Separated
+pub mod Expression
+pub mod ReadDeclr
+pub mod ReadInit
+pub mod ReadSpecs
+pub mod ReadDecl
+pub mod Laws
+pub mod Named
+pub mod Answers
+pub mod WordsOf
+pub mod HeadOf
+pub mod FoundAt

@@ -1,0 +1,14 @@
+pub mod StmtAgain
+pub mod UnitAgain
+pub mod StmtTakes
+pub mod UnitTakes
+pub mod Behind
+pub mod Declared
+pub mod Depths
+pub mod Exts
+pub mod Outsides
+pub mod Pushed
+pub mod Switches
+pub mod Refused
+pub mod Joined
+pub mod Answered

@@ -1,0 +1,5 @@
+use Rattle.c_parse.proofs.Joined as joined
+use Rattle.c_parse.proofs.what_is_read_is_spelled.Goals as goal
+
+pub returns : goal.returns
+returns c = record { law = joined.is_spelled }

@@ -1,0 +1,5 @@
+pub mod ReadStmt
+pub mod ReadUnit
+pub mod Words
+pub mod Units
+pub mod Laws
