@@ -4,6 +4,7 @@ pub mod Sending
 pub mod Calling
 pub mod Executing
 pub mod Stopping
+pub mod Different
 pub mod SmallTrees
 pub mod Shaped
 pub mod Tokened

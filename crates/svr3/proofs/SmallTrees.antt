@@ -1,9 +1,10 @@
 -- The typed trees of the small form, part by part.
 use Rattle.std.proofs.Common.{◌≡◌, ℕ, ◌+◌, ◌<◌, ◌≤◌, List, [], ◌∷◌, ◌++◌, get_or, zero, suc, length, drop, map, Vec, Box, Global, refl, sym, ap, ◌∙◌, arith}
-use Rattle.std.specs.Prelude.{Option, Some, None, position, option_map, Bool, true, ◌&&◌, Result, Ok, Err}
+use Rattle.std.specs.Prelude.{Option, Some, None, position, option_map, Bool, true, false, ◌&&◌, Result, Ok, Err}
 use Rattle.std.specs.List.{list_all}
 use Rattle.std.proofs.lemmas.List.{drop_all}
 use Rattle.std.proofs.lemmas.List.Quantifiers.{position-Some}
+use Rattle.std.proofs.Math.Bool.{and_comm}
 use mathlib.Core.Former.{Count}
 use Rattle.c_type.specs.Names.{Name, same_name, pick}
 use Rattle.c_type.specs.declared.CType.{CType}
@@ -180,3 +181,12 @@ depth_at (x ∷ xs) (suc k) y within is = let below = depth_at xs k y (omega ari
 
 pub depth_of : (s : Stmt) (b : Block) → s ≡ v.Block b → stmt_depth (u.stmt_of s) ≡ block_depth (u.block_of b)
 depth_of s b is = ap stmt_depth (stmt_block s b is)
+
+-- ---- bodies
+
+-- a condition that is asked later
+pub and_later : (a b c d e : Bool) → ((a && b && c && e) && d) ≡ (a && b && c && (d && e))
+and_later true true true d e = and_comm e d
+and_later true true false d e = refl
+and_later true false c d e = refl
+and_later false b c d e = refl

@@ -2,6 +2,7 @@ pub mod Output
 pub mod Process
 pub mod SmallForm
 pub mod Given
+pub mod Variables
 pub mod Command
 pub mod Started
 pub mod Compiled

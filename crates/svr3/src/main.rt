@@ -9,6 +9,7 @@ mod program;
 mod real;
 mod small_form;
 mod top;
+mod variables;
 mod words;
 
 use answer::{End, status};

@@ -1,5 +1,5 @@
 // The typed main of a unit of the small form.
-ghost use Rattle.std.specs.Prelude.{◌≡◌, ◌≤◌, ◌<◌, ◌+◌, ◌++◌, map, length, OnOk, MatchResult, IfOk, Some, true, false};
+ghost use Rattle.std.specs.Prelude.{◌≡◌, ◌≤◌, ◌<◌, ◌+◌, ◌++◌, ◌&&◌, map, length, OnOk, MatchResult, IfOk, Some, true, false};
 ghost use Rattle.std.specs.List.{list_all};
 ghost use Rattle.c_type.specs.Of.{type_of};
 ghost use Rattle.c_type.specs.Types.{num};
@@ -9,7 +9,9 @@ ghost use Rattle.c_tree.specs.TypedOf as t;
 ghost use Rattle.c_tree.specs.WrittenDeclr.{declared};
 ghost use Rattle.svr3.specs.Given.{Gives};
 ghost use Rattle.svr3.specs.SmallForm as s;
+ghost use Rattle.svr3.specs.Variables.{names_of};
 
+use crate::variables::Variables;
 use c_tree::{
     AssignOp, BinaryOp, Block, Declr, Expr, Ext, Init, Item, LocalDecl, Ref, Stmt, Storage,
     TBinary, TBlock, TDeclr, TExpr, TFunc, TLocal, TLocalDecl, TStmt, TypeSpec, Unit,
@@ -55,19 +57,13 @@ fn int() -> CType
     CType::Num(Kind::Int)
 }
 
-fn place(names: &[Name], x: &Name) -> Option<usize>
-    ensures { result ≡ s.place_in names.now x.now }
-{
-    names.iter().position(|y| y.is(x.as_slice()))
-}
-
 // The variable of that name.
 #[tactic(auto, using(crate::proofs::SmallTrees::place_below))]
-fn variable(names: &[Name], x: &Name) -> Result<TExpr, Fault>
-    requires { length names.now ≤ 131072 }
-    ensures { Gives t.expr_of result (s.variable (s.place_in names.now x.now)) }
+fn variable(variables: &Variables, x: &Name) -> Result<TExpr, Fault>
+    requires { length (names_of variables.now) ≤ 131072 }
+    ensures { Gives t.expr_of result (s.variable (s.place_in (names_of variables.now) x.now)) }
 {
-    match place(names, x) {
+    match variables.place(x) {
         Some(i) => Ok(TExpr::Name(int(), Ref::Local(i as u32))),
         None => Err(Fault::Unbuilt),
     }
@@ -93,19 +89,19 @@ fn sum_of(op: BinaryOp) -> Option<TBinary>
     }
 }
 
-fn sum(alloc: Global, names: &[Name], e: &Expr) -> Result<TExpr, Fault>
-    requires { length names.now ≤ 131072 }
-    ensures { Gives t.expr_of result (s.sum_in names.now (u.expr_of e.now)) }
+fn sum(alloc: Global, variables: &Variables, e: &Expr) -> Result<TExpr, Fault>
+    requires { length (names_of variables.now) ≤ 131072 }
+    ensures { Gives t.expr_of result (s.sum_in (names_of variables.now) (u.expr_of e.now)) }
 {
     match e {
-        Expr::Name(_, x) => variable(names, x),
+        Expr::Name(_, x) => variable(variables, x),
         Expr::Int(_, n, long) => number(*n, *long),
         Expr::Binary(_, op, a, b) => {
             let Some(op) = sum_of(*op) else {
                 return Err(Fault::Unbuilt);
             };
-            let a = sum(alloc, names, a)?;
-            let b = sum(alloc, names, b)?;
+            let a = sum(alloc, variables, a)?;
+            let b = sum(alloc, variables, b)?;
             Ok(TExpr::Binary(int(), op, Box::new(alloc, a)?, Box::new(alloc, b)?))
         }
         Expr::Comma(..)
@@ -126,12 +122,12 @@ fn sum(alloc: Global, names: &[Name], e: &Expr) -> Result<TExpr, Fault>
 }
 
 // The name on the left of an assignment.
-fn target(names: &[Name], e: &Expr) -> Result<TExpr, Fault>
-    requires { length names.now ≤ 131072 }
-    ensures { Gives t.expr_of result (s.variable_in names.now (u.expr_of e.now)) }
+fn target(variables: &Variables, e: &Expr) -> Result<TExpr, Fault>
+    requires { length (names_of variables.now) ≤ 131072 }
+    ensures { Gives t.expr_of result (s.variable_in (names_of variables.now) (u.expr_of e.now)) }
 {
     match e {
-        Expr::Name(_, x) => variable(names, x),
+        Expr::Name(_, x) => variable(variables, x),
         _ => Err(Fault::Unbuilt),
     }
 }
@@ -163,32 +159,32 @@ fn call(alloc: Global, argument: TExpr) -> Result<TExpr, Fault>
 }
 
 // The one argument of a call.
-fn argument(alloc: Global, names: &[Name], es: &[Expr]) -> Result<TExpr, Fault>
-    requires { length names.now ≤ 131072 }
-    ensures { Gives t.expr_of result (s.argument_in names.now (u.exprs_from es.now)) }
+fn argument(alloc: Global, variables: &Variables, es: &[Expr]) -> Result<TExpr, Fault>
+    requires { length (names_of variables.now) ≤ 131072 }
+    ensures { Gives t.expr_of result (s.argument_in (names_of variables.now) (u.exprs_from es.now)) }
 {
     if es.len() != 1 {
         return Err(Fault::Unbuilt);
     }
-    sum(alloc, names, &es[0])
+    sum(alloc, variables, &es[0])
 }
 
 // `name = E` or `putchar ( E )`.
-fn action(alloc: Global, names: &[Name], e: &Expr) -> Result<TExpr, Fault>
-    requires { length names.now ≤ 131072 }
-    ensures { Gives t.expr_of result (s.action_in names.now (u.expr_of e.now)) }
+fn action(alloc: Global, variables: &Variables, e: &Expr) -> Result<TExpr, Fault>
+    requires { length (names_of variables.now) ≤ 131072 }
+    ensures { Gives t.expr_of result (s.action_in (names_of variables.now) (u.expr_of e.now)) }
 {
     match e {
         Expr::Assign(_, AssignOp::Set, a, b) => {
-            let a = target(names, a)?;
-            let b = sum(alloc, names, b)?;
+            let a = target(variables, a)?;
+            let b = sum(alloc, variables, b)?;
             Ok(TExpr::Assign(int(), Box::new(alloc, a)?, Box::new(alloc, b)?))
         }
         Expr::Call(_, f, es) => {
             if !is_putchar(f) {
                 return Err(Fault::Unbuilt);
             }
-            let argument = argument(alloc, names, es)?;
+            let argument = argument(alloc, variables, es)?;
             call(alloc, argument)
         }
         _ => Err(Fault::Unbuilt),
@@ -212,65 +208,65 @@ fn check_line(line: u32) -> Result<(), Fault>
 }
 
 #[cycle(stmts)]
-fn stmts(alloc: Global, names: &[Name], next: &mut u32, list: &[Stmt]) -> Result<Vec<TStmt>, Fault>
-    requires few { length names.now ≤ 131072 }
+fn stmts(alloc: Global, variables: &Variables, next: &mut u32, list: &[Stmt]) -> Result<Vec<TStmt>, Fault>
+    requires few { length (names_of variables.now) ≤ 131072 }
     requires counted { next.old + s.stmts_starts (u.stmts_from list.now) ≤ 131072 }
-    ensures typed { Gives (λ v. t.stmts_from v.items) result (s.stmts_in names.now next.old (u.stmts_from list.now)) }
+    ensures typed { Gives (λ v. t.stmts_from v.items) result (s.stmts_in (names_of variables.now) next.old (u.stmts_from list.now)) }
     ensures next { OnOk result (next.new ≡ next.old + s.stmts_starts (u.stmts_from list.now)) }
 {
     let mut typed = Vec::new(alloc);
     for one in list {
-        typed.push(stmt(alloc, names, next, one)?)?;
+        typed.push(stmt(alloc, variables, next, one)?)?;
     }
     Ok(typed)
 }
 
 #[cycle(stmts)]
 #[tactic(auto, using(crate::proofs::SmallTrees::stmt_block))]
-fn stmt(alloc: Global, names: &[Name], next: &mut u32, one: &Stmt) -> Result<TStmt, Fault>
-    requires few { length names.now ≤ 131072 }
+fn stmt(alloc: Global, variables: &Variables, next: &mut u32, one: &Stmt) -> Result<TStmt, Fault>
+    requires few { length (names_of variables.now) ≤ 131072 }
     requires counted { next.old + s.stmt_starts (u.stmt_of one.now) ≤ 131072 }
-    ensures typed { Gives t.stmt_of result (s.stmt_in names.now next.old (u.stmt_of one.now)) }
+    ensures typed { Gives t.stmt_of result (s.stmt_in (names_of variables.now) next.old (u.stmt_of one.now)) }
     ensures next { OnOk result (next.new ≡ next.old + s.stmt_starts (u.stmt_of one.now)) }
 {
     let start = *next;
     match one {
         Stmt::Expr(line, e) => {
             check_line(*line)?;
-            let e = action(alloc, names, e)?;
+            let e = action(alloc, variables, e)?;
             *next += 1;
             Ok(TStmt::Expr(start, *line, e))
         }
         Stmt::While(line, e, body) => {
             check_line(*line)?;
-            let e = sum(alloc, names, e)?;
+            let e = sum(alloc, variables, e)?;
             *next += 1;
-            let body = stmt(alloc, names, next, body)?;
+            let body = stmt(alloc, variables, next, body)?;
             Ok(TStmt::While(start, *line, e, Box::new(alloc, body)?))
         }
         Stmt::Return(line, Some(e)) => {
             check_line(*line)?;
-            let e = sum(alloc, names, e)?;
+            let e = sum(alloc, variables, e)?;
             *next += 1;
             Ok(TStmt::Return(start, *line, Some(e)))
         }
-        Stmt::Block(inner) => block(alloc, names, next, inner),
+        Stmt::Block(inner) => block(alloc, variables, next, inner),
         _ => Err(Fault::Unbuilt),
     }
 }
 
 // A block without declarations.
 #[cycle(stmts)]
-fn block(alloc: Global, names: &[Name], next: &mut u32, inner: &Block) -> Result<TStmt, Fault>
-    requires few { length names.now ≤ 131072 }
+fn block(alloc: Global, variables: &Variables, next: &mut u32, inner: &Block) -> Result<TStmt, Fault>
+    requires few { length (names_of variables.now) ≤ 131072 }
     requires counted { next.old + s.stmts_starts (u.block_of inner.now).stmts ≤ 131072 }
-    ensures typed { Gives t.stmt_of result (s.stmt_in names.now next.old (s.as_stmt (u.block_of inner.now))) }
+    ensures typed { Gives t.stmt_of result (s.stmt_in (names_of variables.now) next.old (s.as_stmt (u.block_of inner.now))) }
     ensures next { OnOk result (next.new ≡ next.old + s.stmts_starts (u.block_of inner.now).stmts) }
 {
     if inner.decls.as_slice().len() != 0 {
         return Err(Fault::Unbuilt);
     }
-    let list = stmts(alloc, names, next, &inner.stmts)?;
+    let list = stmts(alloc, variables, next, &inner.stmts)?;
     Ok(TStmt::Block(TBlock {
         line: inner.line,
         locals: Vec::new(alloc),
@@ -404,36 +400,17 @@ fn are_free(names: &[Name]) -> bool
     names.iter().all(|name| is_free(name))
 }
 
-fn stands(names: &[Name], x: &Name) -> bool
-    ensures { result ≡ s.stands_in names.now x.now }
-{
-    names.iter().any(|y| y.is(x.as_slice()))
-}
-
-fn differ(names: &[Name]) -> bool
-    ensures { result ≡ s.are_different names.now }
-{
-    let mut rest = names;
-    while let Some((first, others)) = rest.split_first() {
-        if stands(others, first) {
-            return false;
-        }
-        rest = others;
-    }
-    true
-}
-
 // ---- main
 
-#[tactic(auto, using(crate::proofs::SmallTrees::all_mapped))]
-fn is_body(names: &[Name], block: &Block) -> bool
+// Whether a body with these names is one of the form if they differ.
+#[tactic(auto, using(crate::proofs::SmallTrees::all_mapped, crate::proofs::SmallTrees::and_later))]
+fn is_plain_body(names: &[Name], block: &Block) -> bool
     requires names { names.now ≡ s.names_in (u.block_of block.now).decls }
-    ensures value { result ≡ s.is_body (u.block_of block.now) }
+    ensures value { (result && s.are_different names.now) ≡ s.is_body (u.block_of block.now) }
 {
     is_line(block.line)
         && is_line(block.close_line)
         && are_plain(&block.decls)
-        && differ(names)
         && are_free(names)
 }
 
@@ -442,11 +419,14 @@ fn body(alloc: Global, block: &Block) -> Result<TFunc, Fault>
     ensures typed { Gives t.func_of result (s.body_in (u.block_of block.now)) }
 {
     let names = names_in(alloc, &block.decls)?;
-    if !is_body(&names, block) {
+    if !is_plain_body(&names, block) {
         return Err(Fault::Unbuilt);
     }
+    let Some(variables) = Variables::of(alloc, &names)? else {
+        return Err(Fault::Unbuilt);
+    };
     let mut next = 1;
-    let stmts = stmts(alloc, &names, &mut next, &block.stmts)?;
+    let stmts = stmts(alloc, &variables, &mut next, &block.stmts)?;
     Ok(TFunc {
         name: Name::of(alloc, b"main")?,
         is_static: false,

@@ -3,6 +3,7 @@ use Rattle.std.proofs.Common.{◌≡◌, ◌+◌, ◌*◌, drop}
 use Rattle.c_tree.specs.TreeOf.{stmt_of, stmts_from, block_of}
 use Rattle.c_tree.specs.TreeStmt.{stmt_depth, stmts_depth, block_depth}
 use Rattle.svr3.specs.SmallForm.{stmts_in, stmts_starts}
+use Rattle.svr3.specs.Variables.{names_of}
 use Rattle.svr3.proofs.SmallTrees.{with_front}
 use Rattle.svr3.proofs.small_form.+stmts.Given as goal
 
@@ -18,5 +19,5 @@ decreases-stmts l = 3 * stmts_depth (stmts_from l.list.now) + 3
 abbrev pub invariant-stmts-loop-one : goal.invariant-stmts-loop-one
 invariant-stmts-loop-one l = record {
   counted : l.next + stmts_starts (stmts_from (drop l.one-index l.list)) ≡ l.initial.next + stmts_starts (stmts_from l.list);
-  typed : with_front l.typed.items (stmts_in l.names l.next (stmts_from (drop l.one-index l.list))) ≡ stmts_in l.names l.initial.next (stmts_from l.list);
+  typed : with_front l.typed.items (stmts_in (names_of l.variables) l.next (stmts_from (drop l.one-index l.list))) ≡ stmts_in (names_of l.variables) l.initial.next (stmts_from l.list);
 }
