@@ -205,6 +205,43 @@ fn sixty_two_brackets_may_be_open(rt: HostRuntime) -> Result<(), Fail> {
     Ok(())
 }
 
+// `main() { int last,vaaaa,vbaaa,..; last=9; return last; }` with so many names behind the first.
+fn with_names(alloc: Global, count: usize) -> Result<Vec<u8>, Fail> {
+    let mut text = b"main() { int last".to_vec(alloc)?;
+    for n in 0..count {
+        text.extend_from_slice(b",v")?;
+        text.push(b'a' + (n % 26) as u8)?;
+        text.push(b'a' + (n / 26 % 26) as u8)?;
+        text.push(b'a' + (n / 676 % 26) as u8)?;
+    }
+    text.extend_from_slice(b"; last=9; return last; }")?;
+    Ok(text)
+}
+
+#[test]
+fn a_text_of_many_names_is_run(rt: HostRuntime) -> Result<(), Fail> {
+    let text = with_names(rt.alloc(), 17_576)?;
+    assert_eq!(rt; status_of(&rt, rt.alloc(), &text)?, 9);
+    Ok(())
+}
+
+// `main() { int n; n=7; n=n+1; .. return n; }` with so many sums.
+fn with_sums(alloc: Global, count: usize) -> Result<Vec<u8>, Fail> {
+    let mut text = b"main() { int n; n=7; ".to_vec(alloc)?;
+    for _ in 0..count {
+        text.extend_from_slice(b"n=n+1;")?;
+    }
+    text.extend_from_slice(b" return n; }")?;
+    Ok(text)
+}
+
+#[test]
+fn a_long_text_is_run(rt: HostRuntime) -> Result<(), Fail> {
+    let text = with_sums(rt.alloc(), 16_640)?;
+    assert_eq!(rt; status_of(&rt, rt.alloc(), &text)?, 7);
+    Ok(())
+}
+
 #[test]
 fn a_file_has_its_limit(rt: HostRuntime) -> Result<(), Fail> {
     let alloc = rt.alloc();
