@@ -88,3 +88,6 @@ pub fn join_part(alloc: Global, units: Vec<TypedUnit>) -> Result<Program, JoinEr
     let classes = checked(alloc, false, &units)?;
     Ok(Program { units, classes })
 }
+
+#[cfg(test)]
+mod tests;
