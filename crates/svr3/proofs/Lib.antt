@@ -6,6 +6,8 @@ pub mod Executing
 pub mod Stopping
 pub mod Different
 pub mod SmallTrees
+pub mod SmallTyped
+pub mod SmallUnit
 pub mod Shaped
 pub mod Tokened
 pub mod UnitFits

@@ -283,6 +283,9 @@ pub record IsSmallText (text : List ℕ) (f : Func) : Type 0 where
   pub small : AreSmallTokens tokens f
   pub short : length text ≤ 131000
 
--- the program that is one main
+-- the typed unit and the program that are one main
+abbrev pub unit_of_main : Func → TypedUnit
+unit_of_main f = record { tags = []; texts = []; exts = func (plain (num Int)) f ∷ [] }
+
 abbrev pub program_of : Func → Program
-program_of f = record { units = record { tags = []; texts = []; exts = func (plain (num Int)) f ∷ [] } ∷ []; classes = [] ∷ [] }
+program_of f = record { units = unit_of_main f ∷ []; classes = [] ∷ [] }

@@ -7,6 +7,7 @@ ghost use Rattle.c_type.specs.declared.Kind.TheVariants.{Int};
 ghost use Rattle.c_tree.specs.TreeOf as u;
 ghost use Rattle.c_tree.specs.TypedOf as t;
 ghost use Rattle.c_tree.specs.WrittenDeclr.{declared};
+ghost use Rattle.c_tree.specs.RuleUnit.{IsTyped};
 ghost use Rattle.svr3.specs.Given.{Gives};
 ghost use Rattle.svr3.specs.SmallForm as s;
 ghost use Rattle.svr3.specs.Variables.{names_of};
@@ -471,8 +472,8 @@ fn main_in(alloc: Global, ext: &Ext) -> Result<TFunc, Fault>
     }
 }
 
-/// The typed main of a unit of the small form.
-pub fn small_main(alloc: Global, unit: &Unit) -> Result<TFunc, Fault>
+// The typed main of a unit that has one part.
+fn only_main(alloc: Global, unit: &Unit) -> Result<TFunc, Fault>
     requires counted { s.unit_size (u.unit_of unit.now) ≤ 131000 }
     ensures typed { Gives t.func_of result (s.small_main (u.unit_of unit.now)) }
 {
@@ -480,4 +481,13 @@ pub fn small_main(alloc: Global, unit: &Unit) -> Result<TFunc, Fault>
         return Err(Fault::Unbuilt);
     }
     main_in(alloc, &unit.exts[0])
+}
+
+/// The typed main of a unit of the small form. It is the unit's by the typing rules.
+pub fn small_main(alloc: Global, unit: &Unit) -> Result<TFunc, Fault>
+    requires counted { s.unit_size (u.unit_of unit.now) ≤ 131000 }
+    ensures typed { Gives t.func_of result (s.small_main (u.unit_of unit.now)) }
+    ensures belongs { IfOk result (λ f. IsTyped (u.unit_of unit.now) (s.unit_of_main (t.func_of f))) }
+{
+    only_main(alloc, unit)
 }
