@@ -9,6 +9,7 @@ use std::process::Abort;
 use std::test::Fail;
 
 // What a call over `one.c` is made of: its words, the text, the calls of the files that fail, and those of the output.
+#[derive(Drop)]
 struct Call<'a> {
     words: &'a Words,
     text: &'a [u8],
@@ -205,11 +206,11 @@ fn sixty_two_brackets_may_be_open(rt: HostRuntime) -> Result<(), Fail> {
     Ok(())
 }
 
-// `main() { int last,vaaaa,vbaaa,..; last=9; return last; }` with so many names behind the first.
+// `main() { int last,xaaa,xbaa,..; last=9; return last; }` with so many names behind the first.
 fn with_names(alloc: Global, count: usize) -> Result<Vec<u8>, Fail> {
     let mut text = b"main() { int last".to_vec(alloc)?;
     for n in 0..count {
-        text.extend_from_slice(b",v")?;
+        text.extend_from_slice(b",x")?;
         text.push(b'a' + (n % 26) as u8)?;
         text.push(b'a' + (n / 26 % 26) as u8)?;
         text.push(b'a' + (n / 676 % 26) as u8)?;
