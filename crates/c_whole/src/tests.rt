@@ -96,41 +96,41 @@ fn unit(alloc: Global, tags: Vec<Tag>, exts: Vec<TExt>) -> TypedUnit {
     }
 }
 
-/// Units without tags, a part of a unit each.
-fn files<const N: usize>(alloc: Global, parts: [TExt; N]) -> Result<Vec<TypedUnit>, AllocError> {
+/// A unit without tags that is one part.
+fn file(alloc: Global, part: TExt) -> Result<TypedUnit, AllocError> {
+    let mut exts = Vec::new(alloc);
+    exts.push(part)?;
+    Ok(unit(alloc, Vec::new(alloc), exts))
+}
+
+/// Two such units.
+fn files(alloc: Global, first: TExt, second: TExt) -> Result<Vec<TypedUnit>, AllocError> {
     let mut units = Vec::new(alloc);
-    for part in parts {
-        let mut exts = Vec::new(alloc);
-        exts.push(part)?;
-        units.push(unit(alloc, Vec::new(alloc), exts))?;
-    }
+    units.push(file(alloc, first)?)?;
+    units.push(file(alloc, second)?)?;
     Ok(units)
 }
 
-/// What an answer says, with the name in it.
-fn told(answer: &Result<Program, JoinErr>) -> (&str, &[u8]) {
+/// Whether an answer says this word, with this name.
+fn says(answer: &Result<Program, JoinErr>, word: &str, name: &[u8]) -> bool {
     match answer {
-        Ok(_) => ("joined", b"".as_slice()),
-        Err(JoinErr::NoMain) => ("no main", b"".as_slice()),
-        Err(JoinErr::Twice(name)) => ("twice", name.as_slice()),
-        Err(JoinErr::Undefined(name)) => ("undefined", name.as_slice()),
-        Err(JoinErr::Clash(name)) => ("clash", name.as_slice()),
-        Err(JoinErr::Arguments(name)) => ("arguments", name.as_slice()),
-        Err(JoinErr::Memory) => ("memory", b"".as_slice()),
+        Ok(_) => word == "joined",
+        Err(JoinErr::NoMain) => word == "no main",
+        Err(JoinErr::Twice(x)) => word == "twice" && x.is(name),
+        Err(JoinErr::Undefined(x)) => word == "undefined" && x.is(name),
+        Err(JoinErr::Clash(x)) => word == "clash" && x.is(name),
+        Err(JoinErr::Arguments(x)) => word == "arguments" && x.is(name),
+        Err(JoinErr::Memory) => false,
     }
 }
 
 #[test]
 fn nothing_has_no_main(rt: HostRuntime) -> Result<(), Fail> {
     let alloc = rt.alloc();
-    assert_eq!(rt;
-        told(&join(alloc, Vec::new(alloc))),
-        ("no main", b"".as_slice())
-    );
-    assert_eq!(rt;
-        told(&join_part(alloc, Vec::new(alloc))),
-        ("joined", b"".as_slice())
-    );
+    let whole = join(alloc, Vec::new(alloc));
+    assert!(rt; says(&whole, "no main", b""));
+    let part = join_part(alloc, Vec::new(alloc));
+    assert!(rt; says(&part, "joined", b""));
     Ok(())
 }
 
@@ -140,8 +140,9 @@ fn main_is_defined_twice(rt: HostRuntime) -> Result<(), Fail> {
     let alloc = rt.alloc();
     let main = function(alloc, b"main", false, None)?;
     let again = function(alloc, b"main", false, None)?;
-    let units = files(alloc, [main, again])?;
-    assert_eq!(rt; told(&join(alloc, units)), ("twice", b"main".as_slice()));
+    let units = files(alloc, main, again)?;
+    let answer = join(alloc, units);
+    assert!(rt; says(&answer, "twice", b"main"));
     Ok(())
 }
 
@@ -150,11 +151,13 @@ fn main_is_defined_twice(rt: HostRuntime) -> Result<(), Fail> {
 fn the_library_and_the_start_are_definitions(rt: HostRuntime) -> Result<(), Fail> {
     let alloc = rt.alloc();
     let start = declared(alloc, b"_start", int(), Bound::Outside)?;
-    let units = files(alloc, [start, function(alloc, b"main", false, None)?])?;
-    assert_eq!(rt; told(&join(alloc, units)), ("twice", b"_start".as_slice()));
+    let units = files(alloc, start, function(alloc, b"main", false, None)?)?;
+    let answer = join(alloc, units);
+    assert!(rt; says(&answer, "twice", b"_start"));
     let putchar = function(alloc, b"putchar", true, None)?;
-    let units = files(alloc, [function(alloc, b"main", false, None)?, putchar])?;
-    assert_eq!(rt; told(&join(alloc, units)), ("twice", b"putchar".as_slice()));
+    let units = files(alloc, function(alloc, b"main", false, None)?, putchar)?;
+    let answer = join(alloc, units);
+    assert!(rt; says(&answer, "twice", b"putchar"));
     Ok(())
 }
 
@@ -164,51 +167,77 @@ fn a_name_is_used_and_not_defined(rt: HostRuntime) -> Result<(), Fail> {
     let alloc = rt.alloc();
     let main = function(alloc, b"main", false, Some(object(alloc, b"x")?))?;
     let x = declared(alloc, b"x", int(), Bound::Elsewhere)?;
-    let units = files(alloc, [x, main])?;
-    assert_eq!(rt; told(&join(alloc, units)), ("undefined", b"x".as_slice()));
+    let units = files(alloc, x, main)?;
+    let answer = join(alloc, units);
+    assert!(rt; says(&answer, "undefined", b"x"));
     let main = function(alloc, b"main", false, Some(object(alloc, b"x")?))?;
     let x = declared(alloc, b"x", int(), Bound::Elsewhere)?;
-    let units = files(alloc, [x, main])?;
-    assert_eq!(rt; told(&join_part(alloc, units)), ("joined", b"".as_slice()));
+    let units = files(alloc, x, main)?;
+    let answer = join_part(alloc, units);
+    assert!(rt; says(&answer, "joined", b""));
     Ok(())
 }
 
-// `f() { }` and `main() { return f(1); }`; `main() { return putchar(65); }`; `main(a) int a; { }`
+// `f() { }` and `main() { return f(1); }`
 #[test]
 fn calls_fit_definitions(rt: HostRuntime) -> Result<(), Fail> {
     let alloc = rt.alloc();
     let f = function(alloc, b"f", false, None)?;
     let called = call(alloc, outer(alloc, b"f")?, 1)?;
-    let units = files(alloc, [f, function(alloc, b"main", false, Some(called))?])?;
-    assert_eq!(rt; told(&join(alloc, units)), ("arguments", b"f".as_slice()));
-    let called = call(alloc, outer(alloc, b"putchar")?, 65)?;
-    let units = files(alloc, [function(alloc, b"main", false, Some(called))?])?;
-    assert_eq!(rt; told(&join(alloc, units)), ("joined", b"".as_slice()));
-    let called = call(alloc, outer(alloc, b"getchar")?, 65)?;
-    let units = files(alloc, [function(alloc, b"main", false, Some(called))?])?;
-    assert_eq!(rt;
-        told(&join(alloc, units)),
-        ("arguments", b"getchar".as_slice())
-    );
-    let units = files(alloc, [function(alloc, b"main", true, None)?])?;
-    assert_eq!(rt;
-        told(&join(alloc, units)),
-        ("arguments", b"main".as_slice())
-    );
+    let units = files(alloc, f, function(alloc, b"main", false, Some(called))?)?;
+    let answer = join(alloc, units);
+    assert!(rt; says(&answer, "arguments", b"f"));
     Ok(())
 }
 
-// `extern int a[];`, `int a[3];` and `main() { }`; then `extern int a[2];` in place of the first
+// `main() { return NAME(65); }` alone
+fn calling(alloc: Global, name: &[u8]) -> Result<Vec<TypedUnit>, AllocError> {
+    let called = call(alloc, outer(alloc, name)?, 65)?;
+    let mut units = Vec::new(alloc);
+    units.push(file(alloc, function(alloc, b"main", false, Some(called))?)?)?;
+    Ok(units)
+}
+
+#[test]
+fn calls_fit_the_library(rt: HostRuntime) -> Result<(), Fail> {
+    let alloc = rt.alloc();
+    let answer = join(alloc, calling(alloc, b"putchar")?);
+    assert!(rt; says(&answer, "joined", b""));
+    let answer = join(alloc, calling(alloc, b"getchar")?);
+    assert!(rt; says(&answer, "arguments", b"getchar"));
+    Ok(())
+}
+
+// `main(a) int a; { }`
+#[test]
+fn main_has_no_parameters(rt: HostRuntime) -> Result<(), Fail> {
+    let alloc = rt.alloc();
+    let mut units = Vec::new(alloc);
+    units.push(file(alloc, function(alloc, b"main", true, None)?)?)?;
+    let answer = join(alloc, units);
+    assert!(rt; says(&answer, "arguments", b"main"));
+    Ok(())
+}
+
+// `extern int a[];` or a dimension there, `int a[3];` and `main() { }`
+fn with_dimension(alloc: Global, length: u32) -> Result<Vec<TypedUnit>, AllocError> {
+    let main = function(alloc, b"main", false, None)?;
+    let elsewhere = declared(alloc, b"a", array(alloc, length)?, Bound::Elsewhere)?;
+    let here = declared(alloc, b"a", array(alloc, 3)?, Bound::Outside)?;
+    let mut units = files(alloc, elsewhere, here)?;
+    units.push(file(alloc, main)?)?;
+    Ok(units)
+}
+
 #[test]
 fn a_missing_dimension_agrees_with_every_number(rt: HostRuntime) -> Result<(), Fail> {
     let alloc = rt.alloc();
-    for (length, answer) in [(0, "joined"), (3, "joined"), (2, "clash")] {
-        let main = function(alloc, b"main", false, None)?;
-        let elsewhere = declared(alloc, b"a", array(alloc, length)?, Bound::Elsewhere)?;
-        let here = declared(alloc, b"a", array(alloc, 3)?, Bound::Outside)?;
-        let units = files(alloc, [elsewhere, here, main])?;
-        assert_eq!(rt; told(&join(alloc, units)).0, answer);
-    }
+    let answer = join(alloc, with_dimension(alloc, 0)?);
+    assert!(rt; says(&answer, "joined", b""));
+    let answer = join(alloc, with_dimension(alloc, 3)?);
+    assert!(rt; says(&answer, "joined", b""));
+    let answer = join(alloc, with_dimension(alloc, 2)?);
+    assert!(rt; says(&answer, "clash", b"a"));
     Ok(())
 }
 
@@ -216,15 +245,16 @@ fn a_missing_dimension_agrees_with_every_number(rt: HostRuntime) -> Result<(), F
 #[test]
 fn the_name_that_is_mentioned_first_is_refused(rt: HostRuntime) -> Result<(), Fail> {
     let alloc = rt.alloc();
-    let parts = [
-        declared(alloc, b"x", int(), Bound::Elsewhere)?,
-        declared(alloc, b"y", int(), Bound::Elsewhere)?,
-        declared(alloc, b"y", CType::Num(Kind::Char), Bound::Outside)?,
-        declared(alloc, b"x", CType::Num(Kind::Char), Bound::Outside)?,
-        function(alloc, b"main", false, None)?,
-    ];
-    let units = files(alloc, parts)?;
-    assert_eq!(rt; told(&join(alloc, units)), ("clash", b"x".as_slice()));
+    let x = declared(alloc, b"x", int(), Bound::Elsewhere)?;
+    let y = declared(alloc, b"y", int(), Bound::Elsewhere)?;
+    let mut units = files(alloc, x, y)?;
+    let y = declared(alloc, b"y", CType::Num(Kind::Char), Bound::Outside)?;
+    units.push(file(alloc, y)?)?;
+    let x = declared(alloc, b"x", CType::Num(Kind::Char), Bound::Outside)?;
+    units.push(file(alloc, x)?)?;
+    units.push(file(alloc, function(alloc, b"main", false, None)?)?)?;
+    let answer = join(alloc, units);
+    assert!(rt; says(&answer, "clash", b"x"));
     Ok(())
 }
 
@@ -251,27 +281,32 @@ fn node_file(alloc: Global, member: &[u8], part: TExt) -> Result<TypedUnit, Allo
     Ok(unit(alloc, tags, exts))
 }
 
+// Such a file with `main`, and one with `f`.
+fn two_nodes(alloc: Global, first: &[u8], second: &[u8]) -> Result<Vec<TypedUnit>, AllocError> {
+    let mut units = Vec::new(alloc);
+    let main = function(alloc, b"main", false, None)?;
+    units.push(node_file(alloc, first, main)?)?;
+    let f = function(alloc, b"f", false, None)?;
+    units.push(node_file(alloc, second, f)?)?;
+    Ok(units)
+}
+
+// Whether each unit has one tag, all with one number.
+fn have_one_class(program: &Program) -> bool {
+    program.classes.len() == 2
+        && program.classes[0].len() == 1
+        && program.classes[0].as_slice() == program.classes[1].as_slice()
+}
+
 #[test]
 fn recursive_structures_of_two_files_agree(rt: HostRuntime) -> Result<(), Fail> {
     let alloc = rt.alloc();
-    for (member, answer) in [
-        (b"next".as_slice(), "joined"),
-        (b"link".as_slice(), "clash"),
-    ] {
-        let mut units = Vec::new(alloc);
-        let main = function(alloc, b"main", false, None)?;
-        units.push(node_file(alloc, b"next", main)?)?;
-        let f = function(alloc, b"f", false, None)?;
-        units.push(node_file(alloc, member, f)?)?;
-        let joined = join(alloc, units);
-        assert_eq!(rt; told(&joined).0, answer);
-        if let Ok(program) = joined {
-            assert_eq!(rt; program.classes.len(), 2);
-            assert_eq!(rt;
-                program.classes[0].as_slice(),
-                program.classes[1].as_slice()
-            );
-        }
+    let same = join(alloc, two_nodes(alloc, b"next", b"next")?);
+    assert!(rt; says(&same, "joined", b""));
+    if let Ok(program) = same {
+        assert!(rt; have_one_class(&program));
     }
+    let other = join(alloc, two_nodes(alloc, b"next", b"link")?);
+    assert!(rt; says(&other, "clash", b"p"));
     Ok(())
 }
