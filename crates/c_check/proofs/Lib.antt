@@ -1,0 +1,5 @@
+pub mod Answers
+pub mod Judges
+pub mod JudgesUnit
+pub mod Joined
+mod UnitRows

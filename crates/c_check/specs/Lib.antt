@@ -1,0 +1,5 @@
+pub mod Judging
+pub mod JudgingUnit
+pub mod Laws
+pub mod Says
+pub mod Closed
