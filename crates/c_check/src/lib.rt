@@ -6,8 +6,12 @@
 //! exact by the rule of its name.
 #![tactic(auto)]
 
+mod bodies;
 mod error;
+mod heads;
 mod operators;
+mod scope;
+mod scopes;
 mod types;
 mod unary;
 mod values;
