@@ -6,6 +6,7 @@ ghost use Rattle.c_tree.specs.RuleScope.{body_from};
 ghost use Rattle.c_check.specs.Entries.{body_of};
 
 use crate::error::TypeErr;
+use crate::first::insert_first;
 use indexmap::IndexMap;
 use num_le::Name;
 use std::alloc::Global;
@@ -42,11 +43,37 @@ impl Bodies {
         }
     }
 
+    fn add_own(&mut self, name: Name) -> Result<(), TypeErr>
+        ensures added { OnOk result (bodies_of self.new ≡ bodies_of self.old ++ record { name = name; is_static = true } ∷ []) }
+    {
+        let number = u32::try_from(self.list.len()).map_err(|_| TypeErr::Memory)?;
+        self.list.reserve(1)?;
+        insert_first(&mut self.own, name.as_slice(), number)?;
+        let is_static = true;
+        self.list.push(Body { name, is_static }).unwrap();
+        Ok(())
+    }
+
+    fn add_outside(&mut self, name: Name) -> Result<(), TypeErr>
+        ensures added { OnOk result (bodies_of self.new ≡ bodies_of self.old ++ record { name = name; is_static = false } ∷ []) }
+    {
+        let number = u32::try_from(self.list.len()).map_err(|_| TypeErr::Memory)?;
+        self.list.reserve(1)?;
+        insert_first(&mut self.outside, name.as_slice(), number)?;
+        let is_static = false;
+        self.list.push(Body { name, is_static }).unwrap();
+        Ok(())
+    }
+
     /// Adds a body behind the others.
     pub fn add(&mut self, name: Name, is_static: bool) -> Result<(), TypeErr>
         ensures added { OnOk result (bodies_of self.new ≡ bodies_of self.old ++ record { name = name; is_static = is_static } ∷ []) }
     {
-        Err(TypeErr::Memory)
+        if is_static {
+            self.add_own(name)
+        } else {
+            self.add_outside(name)
+        }
     }
 
     /// The number of the body of a function, static or external.

@@ -8,6 +8,7 @@
 
 mod bodies;
 mod error;
+mod first;
 mod heads;
 mod operators;
 mod scope;
