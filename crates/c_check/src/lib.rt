@@ -10,6 +10,7 @@ mod bodies;
 mod error;
 mod first;
 mod heads;
+mod layout;
 mod operators;
 mod scope;
 mod scopes;
