@@ -7,3 +7,5 @@ pub mod Indexed
 pub mod Entered
 pub mod Firsts
 pub mod Laying
+pub mod TagsIn
+pub mod Blocks

@@ -6,6 +6,7 @@
 //! exact by the rule of its name.
 #![tactic(auto)]
 
+mod again;
 mod bodies;
 mod error;
 mod first;
@@ -14,9 +15,11 @@ mod layout;
 mod operators;
 mod scope;
 mod scopes;
+mod tags_in;
 mod types;
 mod unary;
 mod values;
+mod words;
 
 ghost use Rattle.c_check.specs.Laws.{IsSound, IsComplete, IsRefused};
 
