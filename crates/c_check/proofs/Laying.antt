@@ -1,7 +1,7 @@
 -- The numbers of a tag that is laid, in the code's lists.
 use Rattle.std.proofs.Common.{get_or, set, subst, ◌⊎◌, inl, inr, ◌-◌, ◌*◌, ◌/◌, ◌≡◌, ℕ, ◌+◌, ◌<◌, ◌≤◌, max, List, [], ◌∷◌, ◌++◌, length, take, drop, map, refl, ap, sym, ◌∙◌, arith}
 use Rattle.std.specs.Prelude.{slice_index_or}
-use Rattle.std.proofs.lemmas.List.{get_or_past, get_or_default, append_assoc, take_more_set, drop-set-lt, drop_more}
+use Rattle.std.proofs.lemmas.List.{get_or_past, append_assoc, take_more_set, drop-set-lt, drop_more}
 use Rattle.c_type.specs.declared.Tags.{Tags}
 use Rattle.c_type.specs.declared.Member as dm
 use Rattle.c_type.specs.Of.{type_of, member_of, members_of, tag_of, tags_of}
@@ -12,10 +12,6 @@ use Rattle.c_type.proofs.Held.{tag_read, tag_count}
 
 pub tag_past : (x : Tags) (k : ℕ) → length x.list.items ≤ k → at_or no_tag (tags_of x) k ≡ no_tag
 tag_past x k le = get_or_past (tags_of x) k no_tag (omega (arith, tag_count x))
-
--- the element that was read, by any other default
-pub read_any : {X : Type 0} (xs : List X) (i : ℕ) (x d : X) → i < length xs → x ≡ get_or xs i x → get_or xs i d ≡ x
-read_any xs i x d lt e = get_or_default xs i d x lt ∙ sym e
 
 members_append : (xs ys : List dm.Member) → members_of (xs ++ ys) ≡ members_of xs ++ members_of ys
 members_append [] ys = refl

@@ -9,3 +9,4 @@ pub mod Firsts
 pub mod Laying
 pub mod TagsIn
 pub mod Blocks
+pub mod Declared

@@ -7,4 +7,3 @@ pub mod EnvOf
 pub mod Places
 pub mod Entries
 pub mod Blocks
-pub mod Meanings

@@ -1,15 +1,13 @@
 // What a name means that is declared at file level once more.
 ghost use Rattle.std.specs.Prelude.{◌≡◌, IfOk};
+ghost use Rattle.std.specs.Option.{option_map};
 ghost use Rattle.c_type.specs.Of.{type_of};
 ghost use Rattle.c_tree.specs.RuleScope.{same_bool};
 ghost use Rattle.c_tree.specs.RuleTypes as t;
 ghost use Rattle.c_tree.specs.RuleUnit as u;
 ghost use Rattle.c_tree.specs.TypedOf.{ref_of};
 ghost use Rattle.c_check.specs.Entries.{meaning_of};
-ghost use Rattle.c_check.specs.Meanings.{or_refused, type_of_option};
-ghost use Rattle.c_check.specs.Says.{Says};
 
-use crate::error::TypeErr;
 use crate::scope::Meaning;
 use crate::types::{copy, copy_ref, is_same};
 use c_tree::Ref;
@@ -18,7 +16,7 @@ use std::alloc::{AllocError, Global};
 
 /// The type that two declarations of an object say together, if they agree.
 pub fn joined(alloc: Global, a: &CType, b: &CType) -> Result<Option<CType>, AllocError>
-    ensures value { IfOk result (λ x. type_of_option x ≡ t.joined (type_of a.now) (type_of b.now)) }
+    ensures value { IfOk result (λ x. option_map type_of x ≡ t.joined (type_of a.now) (type_of b.now)) }
 {
     match (a, b) {
         (CType::Arr(n, x), CType::Arr(m, y)) => {
@@ -55,29 +53,29 @@ fn is_own(name: &Ref) -> bool
     matches!(name, Ref::Static(_))
 }
 
-/// What a name means that was declared before. An object keeps its choice of `static` and its number, a function its
-/// type and its choice.
-pub fn again(alloc: Global, line: u32, old: &Meaning, new: &Meaning) -> Result<Meaning, TypeErr>
-    ensures judged { Says meaning_of (or_refused (u.again (meaning_of old.now) (meaning_of new.now))) result }
+/// What a name means that was declared before, if both declarations agree. An object keeps its choice of `static` and
+/// its number, a function its type and its choice.
+pub fn again(alloc: Global, old: &Meaning, new: &Meaning) -> Result<Option<Meaning>, AllocError>
+    ensures value { IfOk result (λ x. option_map meaning_of x ≡ u.again (meaning_of old.now) (meaning_of new.now)) }
 {
     match (old, new) {
         (Meaning::Thing(name, a), Meaning::Thing(other, b)) => {
             if !is_equal(is_own(name), is_own(other)) {
-                return Err(TypeErr::Rule(1, line));
+                return Ok(None);
             }
             let Some(ty) = joined(alloc, a, b)? else {
-                return Err(TypeErr::Rule(1, line));
+                return Ok(None);
             };
-            Ok(Meaning::Thing(copy_ref(alloc, name)?, ty))
+            Ok(Some(Meaning::Thing(copy_ref(alloc, name)?, ty)))
         }
         (Meaning::Function(own, name, a), Meaning::Function(other, _, b)) => {
             if !(is_equal(*own, *other) && is_same(a, b)) {
-                return Err(TypeErr::Rule(1, line));
+                return Ok(None);
             }
             let name = copy_ref(alloc, name)?;
             let ty = copy(alloc, a)?;
-            Ok(Meaning::Function(*own, name, ty))
+            Ok(Some(Meaning::Function(*own, name, ty)))
         }
-        _ => Err(TypeErr::Rule(1, line)),
+        _ => Ok(None),
     }
 }

@@ -231,6 +231,7 @@ impl Scopes {
     }
 
     /// Declares an object or a function in the file, perhaps once more.
+    #[tactic(auto, using(crate::proofs::Declared::first_declared, crate::proofs::Declared::again_declared, crate::proofs::Declared::again_refused), unfolding(crate::specs::EnvOf::env_of))]
     pub fn declare_in_file(
         &mut self,
         line: u32,
@@ -239,11 +240,13 @@ impl Scopes {
     ) -> Result<(), TypeErr>
         ensures judged { Says (λ _. env_of self.new) (declared_in_file (env_of self.old) name (meaning_of meaning)) result }
     {
-        let combined = match self.in_file(name.as_slice()) {
-            Some(old) => again(self.alloc(), line, old, &meaning)?,
-            None => meaning,
+        let Some(old) = self.in_file(name.as_slice()) else {
+            return Ok(self.add_in_file(name, meaning)?);
         };
-        Ok(self.add_in_file(name, combined)?)
+        let Some(meaning) = again(self.alloc(), old, &meaning)? else {
+            return Err(TypeErr::Rule(1, line));
+        };
+        Ok(self.add_in_file(name, meaning)?)
     }
 
     /// Enters a block.
