@@ -1,7 +1,7 @@
 #![tactic(auto, unfolding(crate::specs::EnvOf::env_of))]
 
 // Where a part of a unit stands: what names and tags mean there, and which numbers were given.
-ghost use Rattle.std.specs.Prelude.{◌≡◌, ◌∷◌, ◌+◌, [], suc, length, List, ℕ, IfOk, OnOk, map};
+ghost use Rattle.std.specs.Prelude.{◌≡◌, ◌∷◌, ◌+◌, [], suc, length, take, List, ℕ, IfOk, OnOk, map};
 ghost use Rattle.std.specs.Option.{option_map};
 ghost use Rattle.c_type.specs.Of as o;
 ghost use Rattle.c_tree.specs.TreeOf.{unit_of};
@@ -119,6 +119,27 @@ impl Scopes {
         ensures value { result ≡ (env_of self.now).starts }
     {
         self.starts
+    }
+
+    /// The number of automatic objects of the function that were given.
+    pub fn autos(&self) -> u32
+        ensures value { result ≡ (env_of self.now).autos }
+    {
+        self.autos
+    }
+
+    /// The number of texts that were met.
+    pub fn count_texts(&self) -> usize
+        ensures value { result ≡ length (env_of self.now).texts }
+    {
+        self.texts.len()
+    }
+
+    /// Forgets all texts but the first ones.
+    pub fn forget_texts(&mut self, count: usize)
+        ensures first { env_of self.new ≡ record (env_of self.old) { texts = take count (env_of self.old).texts } }
+    {
+        self.texts.truncate(count);
     }
 
     /// The number of static objects that were given.

@@ -1,5 +1,6 @@
-use Rattle.std.proofs.Common.{rules, arith, ◌≡◌, ℕ, ◌+◌, ◌-◌, List, ◌∷◌, length, take, get_or, set, true, false, ap, sym, ◌∙◌}
+use Rattle.std.proofs.Common.{rules, arith, ◌≡◌, ℕ, ◌+◌, ◌-◌, ◌<◌, List, ◌∷◌, length, take, get_or, set, true, false, ap, sym, ◌∙◌}
 use Rattle.std.proofs.lemmas.Grind.{common_steps}
+use Rattle.std.proofs.lemmas.List.{get_or_default}
 use Rattle.c_tree.specs.RuleScope.{Entry, Is}
 use Rattle.c_tree.specs.RuleStmts.{is_free}
 use Rattle.c_check.specs.declared.scope.Scope.{Scope}
@@ -33,7 +34,11 @@ returns c =
     let at : s ≡ get_or bs k s = search rules in
     let row : blocks_of bs ≡ scope_of s ∷ blocks_of (take k bs) = last_row bs k s e ∙ ap (λ t. scope_of t ∷ blocks_of (take k bs)) (sym at) in
     let free : is_free c.args.name (scope_of s) ≡ true = search rules in
-    let more : scope_of n ≡ entry ∷ scope_of s = ? in
+    let old : Scope = c.index_mut.result.now in
+    let lt : k < length bs = omega arith in
+    let same : old ≡ s = (let h : old ≡ get_or bs k old = search rules in h) ∙ get_or_default bs k old s lt ∙ sym at in
+    let add : scope_of n ≡ entry ∷ scope_of old = search rules in
+    let more : scope_of n ≡ entry ∷ scope_of s = add ∙ ap (λ t. entry ∷ scope_of t) same in
     record {
       judged = here_declared (env_of c.args.self.now) c.args.name (meaning_of c.args.meaning) (scope_of s) (blocks_of (take k bs)) row free ∙
           ap (λ l. Is (record (env_of c.args.self.now) { blocks = l })) (ap (λ x. x ∷ blocks_of (take k bs)) (sym more) ∙ sym (last_set bs k n e));
