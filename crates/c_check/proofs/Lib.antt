@@ -10,3 +10,8 @@ pub mod Laying
 pub mod TagsIn
 pub mod Blocks
 pub mod Declared
+pub mod TextsMet
+pub mod Parts
+pub mod Listed
+pub mod Here
+pub mod Inits

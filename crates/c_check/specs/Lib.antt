@@ -7,3 +7,7 @@ pub mod EnvOf
 pub mod Places
 pub mod Entries
 pub mod Blocks
+pub mod DeclrTexts
+pub mod Listed
+pub mod Here
+pub mod Numbers

@@ -8,14 +8,20 @@
 
 mod again;
 mod bodies;
+mod constants;
+mod declarators;
 mod error;
+mod expressions;
 mod first;
 mod heads;
+mod initialisers;
 mod layout;
+mod locals;
 mod operators;
 mod scope;
 mod scopes;
 mod tags_in;
+mod texts;
 mod types;
 mod unary;
 mod values;
