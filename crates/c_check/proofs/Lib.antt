@@ -3,3 +3,6 @@ pub mod Judges
 pub mod JudgesUnit
 pub mod Joined
 mod UnitRows
+pub mod Indexed
+pub mod Entered
+pub mod Firsts

@@ -3,3 +3,7 @@ pub mod JudgingUnit
 pub mod Laws
 pub mod Says
 pub mod Closed
+pub mod EnvOf
+pub mod Places
+pub mod Entries
+pub mod Blocks

@@ -6,8 +6,13 @@
 //! exact by the rule of its name.
 #![tactic(auto)]
 
+mod bodies;
 mod error;
+mod first;
+mod heads;
 mod operators;
+mod scope;
+mod scopes;
 mod types;
 mod unary;
 mod values;
