@@ -6,3 +6,4 @@ mod UnitRows
 pub mod Indexed
 pub mod Entered
 pub mod Firsts
+pub mod Parts

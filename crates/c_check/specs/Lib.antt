@@ -7,3 +7,5 @@ pub mod EnvOf
 pub mod Places
 pub mod Entries
 pub mod Blocks
+pub mod Numbers
+pub mod Arguments

@@ -6,16 +6,25 @@
 //! exact by the rule of its name.
 #![tactic(auto)]
 
+mod assignments;
 mod bodies;
+mod by_operator;
+mod choice;
+mod constants;
 mod error;
+mod expressions;
 mod first;
 mod heads;
+mod here;
+mod names;
 mod operators;
+mod postfix;
 mod scope;
 mod scopes;
 mod types;
 mod unary;
 mod values;
+mod words;
 
 ghost use Rattle.c_check.specs.Laws.{IsSound, IsComplete, IsRefused};
 

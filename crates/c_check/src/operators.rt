@@ -12,7 +12,7 @@ ghost use Rattle.c_check.specs.Says.{Says};
 
 use crate::error::TypeErr;
 use crate::types::{is_integer, is_object_pointer, is_pointer, is_same, target_is_sized};
-use crate::values::{integer, scalar, to_type, type_of, used, widen};
+use crate::values::{integer, is_with_zero, scalar, to_type, type_of, used, widen};
 use c_tree::{TBinary, TExpr};
 use c_type::{CType, Kind, Tags};
 use std::alloc::{AllocError, Global};
@@ -201,6 +201,40 @@ pub fn order(alloc: Global, line: u32, op: TBinary, a: TExpr, b: TExpr) -> Resul
         return Err(TypeErr::Rule(14, line));
     }
     Ok(binary(alloc, CType::Num(Kind::Int), op, x, y)?)
+}
+
+/// `==` and `!=` take two integers, two pointers of one type, or a pointer and the constant 0.
+pub fn equality(
+    alloc: Global,
+    line: u32,
+    tags: &Tags,
+    op: TBinary,
+    a: TExpr,
+    b: TExpr,
+) -> Result<TExpr, TypeErr>
+    ensures { Says expr_of (r.equality (closed (tags_of tags.now)) op (expr_of a) (expr_of b)) result }
+{
+    let x = used(alloc, line, a)?;
+    let y = used(alloc, line, b)?;
+    let left = type_of(alloc, &x)?;
+    let right = type_of(alloc, &y)?;
+    if is_integer(&left) && is_integer(&right) {
+        let x = widen(alloc, x)?;
+        let y = widen(alloc, y)?;
+        return Ok(compared(alloc, op, x, y)?);
+    }
+    if are_alike(&left, &right) {
+        return Ok(binary(alloc, CType::Num(Kind::Int), op, x, y)?);
+    }
+    if is_with_zero(tags, &left, &right, &y) {
+        let zero = to_type(alloc, &left, y)?;
+        return Ok(binary(alloc, CType::Num(Kind::Int), op, x, zero)?);
+    }
+    if !is_with_zero(tags, &right, &left, &x) {
+        return Err(TypeErr::Rule(14, line));
+    }
+    let zero = to_type(alloc, &right, x)?;
+    Ok(binary(alloc, CType::Num(Kind::Int), op, zero, y)?)
 }
 
 /// `&&` takes scalars.

@@ -71,6 +71,23 @@ pub fn is_function(ty: &CType) -> bool
     matches!(ty, CType::Fun(_))
 }
 
+/// `void`, which is no value.
+pub fn is_void(ty: &CType) -> bool
+    ensures { result ≡ r.is_void (type_of ty.now) }
+{
+    matches!(ty, CType::Void)
+}
+
+/// What a pointer points to, or a function's result.
+pub fn target(ty: CType) -> CType
+    ensures { type_of result ≡ t.target (type_of ty) }
+{
+    match ty {
+        CType::Ptr(to) | CType::Fun(to) => Box::into_inner(to),
+        _ => CType::Void,
+    }
+}
+
 /// A pointer to an object.
 pub fn is_object_pointer(ty: &CType) -> bool
     ensures { result ≡ v.is_object_pointer (type_of ty.now) }

@@ -8,8 +8,8 @@ ghost use Rattle.c_check.specs.Closed.{closed};
 ghost use Rattle.c_check.specs.Says.{Says};
 
 use crate::error::TypeErr;
-use crate::types::{is_function, is_object_pointer, is_sized, target_is_sized};
-use crate::values::{integer, scalar, type_of, used};
+use crate::types::{is_function, is_object_pointer, is_sized, is_void, target_is_sized};
+use crate::values::{integer, is_taken, scalar, type_of, used};
 use c_tree::{Ref, TExpr, TStep, TUnary};
 use c_type::{CType, Kind, Tags};
 use std::alloc::Global;
@@ -120,4 +120,17 @@ pub fn size_of(alloc: Global, line: u32, tags: &Tags, expr: TExpr) -> Result<TEx
         return Err(TypeErr::Rule(3, line));
     }
     Ok(TExpr::SizeOf(Box::new(alloc, expr)?))
+}
+
+/// A cast goes from an integer to an integer type, from the constant 0 to a pointer type, from a pointer to its own type,
+/// or from anything to void.
+pub fn cast(alloc: Global, line: u32, tags: &Tags, to: CType, expr: TExpr) -> Result<TExpr, TypeErr>
+    ensures { Says expr_of (r.cast (closed (tags_of tags.now)) (type_of to) (expr_of expr)) result }
+{
+    let value = used(alloc, line, expr)?;
+    let from = type_of(alloc, &value)?;
+    if !(is_void(&to) || is_taken(tags, &to, &from, &value)) {
+        return Err(TypeErr::Rule(22, line));
+    }
+    Ok(TExpr::Cast(to, Box::new(alloc, value)?))
 }

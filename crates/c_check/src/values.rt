@@ -1,46 +1,30 @@
 // The rules on values: use, widening, conversion.
-ghost use Rattle.std.specs.Prelude.{◌≡◌, IfOk};
-ghost use Rattle.c_type.specs.Of.{type_of};
-ghost use Rattle.c_type.specs.Types.{ptr};
+ghost use Rattle.std.specs.Prelude.{◌≡◌, ◌&&◌, ◌||◌, IfOk};
+ghost use Rattle.c_type.specs.Of.{type_of, tags_of};
+ghost use Rattle.c_type.specs.Types as t;
+ghost use Rattle.c_tree.specs.Constant.{is_zero as is_zero_rule};
 ghost use Rattle.c_tree.specs.TExpr as e;
 ghost use Rattle.c_tree.specs.TypedOf.{expr_of};
 ghost use Rattle.c_tree.specs.RuleValues as v;
+ghost use Rattle.c_check.specs.Closed.{closed};
 ghost use Rattle.c_check.specs.Says.{Says};
 
 use crate::error::TypeErr;
-use crate::types::{copy, is_integer, is_same, is_scalar, wide};
+use crate::types::{copy, is_integer, is_pointer, is_same, is_scalar, wide};
+use c_constant::{ExprType, is_zero};
 use c_tree::TExpr;
-use c_type::{CType, Kind};
+use c_type::{CType, Kind, Tags};
 use std::alloc::{AllocError, Global};
 
 /// The type of an expression.
 pub fn type_of(alloc: Global, expr: &TExpr) -> Result<CType, AllocError>
     ensures { IfOk result (λ x. type_of x ≡ e.type_of (expr_of expr.now)) }
 {
-    match expr {
-        TExpr::SizeOf(_) | TExpr::SizeOfType(_) => Ok(CType::Num(Kind::UInt)),
-        TExpr::Both(..) | TExpr::Either(..) => Ok(CType::Num(Kind::Int)),
-        TExpr::Name(ty, _) => copy(alloc, ty),
-        TExpr::Int(ty, _) => copy(alloc, ty),
-        TExpr::Text(ty, _) => copy(alloc, ty),
-        TExpr::Unary(ty, ..) => copy(alloc, ty),
-        TExpr::Deref(ty, _) => copy(alloc, ty),
-        TExpr::Address(ty, _) => copy(alloc, ty),
-        TExpr::Step(ty, ..) => copy(alloc, ty),
-        TExpr::Cast(ty, _) => copy(alloc, ty),
-        TExpr::Convert(ty, _) => copy(alloc, ty),
-        TExpr::Decay(ty, _) => copy(alloc, ty),
-        TExpr::Designate(ty, _) => copy(alloc, ty),
-        TExpr::Binary(ty, ..) => copy(alloc, ty),
-        TExpr::Comma(ty, ..) => copy(alloc, ty),
-        TExpr::Choice(ty, ..) => copy(alloc, ty),
-        TExpr::Assign(ty, ..) => copy(alloc, ty),
-        TExpr::Update(ty, ..) => copy(alloc, ty),
-        TExpr::Index(ty, ..) => copy(alloc, ty),
-        TExpr::Call(ty, ..) => copy(alloc, ty),
-        TExpr::Member(ty, ..) => copy(alloc, ty),
-        TExpr::Arrow(ty, ..) => copy(alloc, ty),
-    }
+    Ok(match c_constant::type_of(expr) {
+        ExprType::Int => CType::Num(Kind::Int),
+        ExprType::Unsigned => CType::Num(Kind::UInt),
+        ExprType::Told(ty) => copy(alloc, ty)?,
+    })
 }
 
 fn convert(alloc: Global, ty: CType, expr: TExpr) -> Result<TExpr, AllocError>
@@ -71,7 +55,7 @@ pub fn widen(alloc: Global, expr: TExpr) -> Result<TExpr, AllocError>
 }
 
 fn pointer(alloc: Global, to: CType) -> Result<CType, AllocError>
-    ensures { IfOk result (λ x. type_of x ≡ ptr (type_of to)) }
+    ensures { IfOk result (λ x. type_of x ≡ t.ptr (type_of to)) }
 {
     Ok(CType::Ptr(Box::new(alloc, to)?))
 }
@@ -116,4 +100,57 @@ pub fn scalar(alloc: Global, rule: u8, line: u32, expr: TExpr) -> Result<TExpr, 
         return Err(TypeErr::Rule(rule, line));
     }
     Ok(value)
+}
+
+/// Whether a value of the second type is the constant 0, where the first type is a pointer.
+pub fn is_with_zero(tags: &Tags, pointer: &CType, ty: &CType, value: &TExpr) -> bool
+    ensures { result
+        ≡ (t.is_pointer (type_of pointer.now) && (t.is_integer (type_of ty.now) && is_zero_rule (tags_of tags.now) (expr_of value.now))) }
+{
+    is_pointer(pointer) && is_integer(ty) && is_zero(&tags.list, value)
+}
+
+/// Whether a place takes a value of the second type: an integer an integer, a pointer its own type or the constant 0.
+pub fn is_taken(tags: &Tags, place: &CType, ty: &CType, value: &TExpr) -> bool
+    ensures { result
+        ≡ ((t.is_integer (type_of place.now) && t.is_integer (type_of ty.now))
+        || (t.is_pointer (type_of place.now) && (t.same_type (type_of place.now) (type_of ty.now) || (t.is_integer (type_of ty.now) && is_zero_rule (tags_of tags.now) (expr_of value.now))))) }
+{
+    if is_integer(place) {
+        return is_integer(ty);
+    }
+    is_pointer(place) && (is_same(place, ty) || (is_integer(ty) && is_zero(&tags.list, value)))
+}
+
+/// A value as a place of that type takes it, by the rule of what takes it.
+pub fn taken(
+    alloc: Global,
+    rule: u8,
+    line: u32,
+    tags: &Tags,
+    place: &CType,
+    value: TExpr,
+) -> Result<TExpr, TypeErr>
+    ensures { Says expr_of (v.taken rule (closed (tags_of tags.now)) (type_of place.now) (expr_of value)) result }
+{
+    let ty = type_of(alloc, &value)?;
+    if !is_taken(tags, place, &ty, &value) {
+        return Err(TypeErr::Rule(rule, line));
+    }
+    Ok(to_type(alloc, place, value)?)
+}
+
+/// An expression as the value of a place of that type, by the rule of what takes it.
+pub fn value_for(
+    alloc: Global,
+    rule: u8,
+    line: u32,
+    tags: &Tags,
+    place: &CType,
+    expr: TExpr,
+) -> Result<TExpr, TypeErr>
+    ensures { Says expr_of (v.value_for rule (closed (tags_of tags.now)) (type_of place.now) (expr_of expr)) result }
+{
+    let value = used(alloc, line, expr)?;
+    taken(alloc, rule, line, tags, place, value)
 }

@@ -1,0 +1,69 @@
+// The rules on names and numbers in expressions.
+ghost use Rattle.std.specs.Prelude.{◌≡◌, Some};
+ghost use Rattle.c_tree.specs.TypedOf.{expr_of};
+ghost use Rattle.c_tree.specs.RuleExprs as r;
+ghost use Rattle.c_tree.specs.RuleScope.{meaning_of as meaning_rule};
+ghost use Rattle.c_check.specs.Entries.{meaning_of};
+ghost use Rattle.c_check.specs.EnvOf.{env_of};
+ghost use Rattle.c_check.specs.Says.{Says};
+
+use crate::error::TypeErr;
+use crate::scope::Meaning;
+use crate::scopes::Scopes;
+use crate::types::{copy, copy_ref};
+use c_tree::{Ref, TExpr};
+use c_type::{CType, Kind};
+use std::alloc::Global;
+
+/// What a declared name is in an expression. A typedef name is none.
+fn meant(alloc: Global, line: u32, meaning: &Meaning) -> Result<TExpr, TypeErr>
+    ensures { Says expr_of (r.as_expr (Some (meaning_of meaning.now))) result }
+{
+    match meaning {
+        Meaning::Alias(_) => Err(TypeErr::Rule(2, line)),
+        Meaning::Constant(bits) => Ok(TExpr::Name(
+            CType::Num(Kind::Int),
+            Ref::Const(bits.cast_signed()),
+        )),
+        Meaning::Thing(to, ty) | Meaning::Function(_, to, ty) => {
+            Ok(TExpr::Name(copy(alloc, ty)?, copy_ref(alloc, to)?))
+        }
+    }
+}
+
+/// What a name is in an expression.
+pub fn named(c: &Scopes, line: u32, name: &[u8]) -> Result<TExpr, TypeErr>
+    ensures { Says expr_of (r.as_expr (meaning_rule (env_of c.now) name.now)) result }
+{
+    match c.meaning(name) {
+        Some(meaning) => meant(c.alloc(), line, meaning),
+        None => Err(TypeErr::Rule(2, line)),
+    }
+}
+
+/// The name of a called function. One that is not declared is an external function that returns int.
+pub fn called_name(c: &Scopes, line: u32, name: &[u8]) -> Result<TExpr, TypeErr>
+    ensures { Says expr_of (r.called_name (env_of c.now) name.now (meaning_rule (env_of c.now) name.now)) result }
+{
+    let alloc = c.alloc();
+    match c.meaning(name) {
+        Some(meaning) => meant(alloc, line, meaning),
+        None => {
+            let to = c.function_ref(false, name)?;
+            let ty = CType::Fun(Box::new(alloc, CType::Num(Kind::Int))?);
+            Ok(TExpr::Name(ty, to))
+        }
+    }
+}
+
+/// The type of a number, by whether it has the suffix `l`.
+pub fn kind_of_int(number: u32, long: bool) -> Kind
+    ensures { result ≡ r.kind_of_int number long }
+{
+    match (long, number <= 0x7FFF_FFFF) {
+        (true, true) => Kind::Long,
+        (true, false) => Kind::ULong,
+        (false, true) => Kind::Int,
+        (false, false) => Kind::UInt,
+    }
+}
