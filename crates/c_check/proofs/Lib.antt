@@ -6,4 +6,5 @@ mod UnitRows
 pub mod Indexed
 pub mod Entered
 pub mod Firsts
+pub mod Laying
 pub mod Parts

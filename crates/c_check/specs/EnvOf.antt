@@ -12,6 +12,10 @@ use Rattle.c_check.specs.Entries.{entries_of, head_of, body_of}
 abbrev pub scope_of : Scope → List r.Entry
 scope_of s = entries_of s.entries.items
 
+-- the scopes inside a function, the innermost first
+abbrev pub blocks_of : List Scope → List (List r.Entry)
+blocks_of bs = reverse (map scope_of bs)
+
 -- the tags that a unit defines
 abbrev pub heads_of : Heads → List r.TagHead
 heads_of h = map head_of h.list.items
@@ -24,7 +28,7 @@ bodies_of b = map body_of b.list.items
 unfoldable pub env_of : Scopes → r.Env
 env_of c =
     record {
-      blocks = reverse (map scope_of c.blocks.items);
+      blocks = blocks_of c.blocks.items;
       file = scope_of c.file;
       tags = tags_of c.tags;
       texts = c.texts.items;

@@ -16,6 +16,7 @@ mod expressions;
 mod first;
 mod heads;
 mod here;
+mod layout;
 mod names;
 mod operators;
 mod postfix;

@@ -1,3 +1,5 @@
+#![tactic(auto, unfolding(crate::specs::EnvOf::env_of))]
+
 // Where a part of a unit stands: what names and tags mean there, and which numbers were given.
 ghost use Rattle.std.specs.Prelude.{◌≡◌, ◌∷◌, ◌+◌, [], suc, length, List, ℕ, IfOk, OnOk, map};
 ghost use Rattle.std.specs.Option.{option_map};
@@ -11,11 +13,13 @@ ghost use Rattle.c_tree.specs.RuleUnit as u;
 ghost use Rattle.c_check.specs.Judging.{declared_here};
 ghost use Rattle.c_check.specs.JudgingUnit.{declared_in_file};
 ghost use Rattle.c_check.specs.Entries.{meaning_of};
+ghost use Rattle.c_check.specs.EnvOf.{scope_of, blocks_of};
 ghost use Rattle.c_check.specs.Says.{Says};
 
 use crate::bodies::Bodies;
 use crate::error::TypeErr;
 use crate::heads::Heads;
+use crate::layout::lay;
 use crate::scope::{Meaning, Scope};
 use c_tree::{Ref, TParam, Unit};
 use c_type::{CType, Tag, TagKind, Tags};
@@ -37,6 +41,27 @@ pub struct Scopes {
     statics: u32,
     heads: Heads,
     bodies: Bodies,
+}
+
+/// The scope of a function's parameters.
+fn parameter_scope(alloc: Global, params: &[TParam]) -> Result<Scope, TypeErr>
+    ensures value { IfOk result (λ x. scope_of x ≡ u.parameter_scope 0 (map var_of params.now)) }
+{
+    Err(TypeErr::Memory)
+}
+
+/// What a name means in the innermost of the scopes that declares it.
+fn in_blocks<'a>(blocks: &'a [Scope], name: &[u8]) -> Option<&'a Meaning>
+    ensures value { option_map (λ m. meaning_of m.now) result ≡ r.in_scopes name.now (blocks_of blocks.now) }
+{
+    let mut depth = blocks.len();
+    while depth > 0 {
+        depth -= 1;
+        if let Some(meaning) = blocks[depth].meaning(name) {
+            return Some(meaning);
+        }
+    }
+    None
 }
 
 impl Scopes {
@@ -80,12 +105,10 @@ impl Scopes {
     pub fn meaning(&self, name: &[u8]) -> Option<&Meaning>
         ensures value { option_map (λ m. meaning_of m.now) result ≡ r.meaning_of (env_of self.now) name.now }
     {
-        for block in self.blocks.iter().rev() {
-            if let Some(meaning) = block.meaning(name) {
-                return Some(meaning);
-            }
+        match in_blocks(&self.blocks, name) {
+            Some(meaning) => Some(meaning),
+            None => self.file.meaning(name),
         }
-        self.file.meaning(name)
     }
 
     /// What a name means in the file alone.
@@ -158,7 +181,15 @@ impl Scopes {
     pub fn declare_here(&mut self, line: u32, name: Name, meaning: Meaning) -> Result<(), TypeErr>
         ensures judged { Says (λ _. env_of self.new) (declared_here (env_of self.old) name (meaning_of meaning)) result }
     {
-        Err(TypeErr::Memory)
+        if self.blocks.is_empty() {
+            self.enter()?;
+        }
+        let innermost = self.blocks.len() - 1;
+        if !self.blocks[innermost].is_free(name.as_slice()) {
+            return Err(TypeErr::Rule(1, line));
+        }
+        self.blocks[innermost].add(name, meaning)?;
+        Ok(())
     }
 
     /// Declares a name in the file.
@@ -198,24 +229,32 @@ impl Scopes {
     }
 
     /// Closes a tag's body: its sizes and offsets are those that its members' types give.
-    pub fn close(&mut self, tag: Tag) -> Result<(), TypeErr>
+    pub fn close(&mut self, mut tag: Tag) -> Result<(), TypeErr>
         ensures closed { OnOk result (env_of self.new ≡ r.close (o.tag_of tag) (env_of self.old)) }
     {
-        Err(TypeErr::Memory)
+        lay(&self.tags, &mut tag);
+        self.tags.list.push(tag)?;
+        Ok(())
     }
 
     /// Passes the opening brace of a function's body, which begins the scope of its parameters.
     pub fn enter_body(&mut self, params: &[TParam]) -> Result<(), TypeErr>
         ensures inside { OnOk result (env_of self.new ≡ u.in_body (map var_of params.now) (env_of self.old)) }
     {
-        Err(TypeErr::Memory)
+        let scope = parameter_scope(self.alloc(), params)?;
+        self.started(1)?;
+        self.autos = 0;
+        self.blocks.clear();
+        self.blocks.push(scope)?;
+        Ok(())
     }
 
     /// Passes the closing brace of a function's body.
     pub fn leave_body(&mut self) -> Result<(), TypeErr>
         ensures outside { OnOk result (env_of self.new ≡ record (r.started 1 (env_of self.old)) { blocks = [] }) }
     {
-        Err(TypeErr::Memory)
+        self.blocks.clear();
+        self.started(1)
     }
 
     /// The tags that are closed and the texts that were met.

@@ -2,12 +2,15 @@
 ghost use Rattle.std.specs.Prelude.{◌≡◌, IfOk};
 ghost use Rattle.c_type.specs.Of.{type_of, tags_of};
 ghost use Rattle.c_type.specs.Types as t;
+ghost use Rattle.c_tree.specs.TypedOf.{ref_of};
 ghost use Rattle.c_tree.specs.RuleTypes as r;
 ghost use Rattle.c_tree.specs.RuleScope.{known, is_sized as is_sized_rule};
 ghost use Rattle.c_tree.specs.RuleValues as v;
 ghost use Rattle.c_check.specs.Closed.{closed};
 
+use c_tree::Ref;
 use c_type::{CType, Kind, Tags};
+use num_le::Name;
 use std::alloc::{AllocError, Global};
 
 /// The same type once more.
@@ -23,6 +26,28 @@ pub fn copy(alloc: Global, ty: &CType) -> Result<CType, AllocError>
         CType::Union(tag) => CType::Union(*tag),
         CType::Enum(tag) => CType::Enum(*tag),
         CType::Fun(to) => CType::Fun(Box::new(alloc, copy(alloc, to)?)?),
+    })
+}
+
+/// The same name once more.
+pub fn copy_name(alloc: Global, name: &Name) -> Result<Name, AllocError>
+    ensures { IfOk result (λ x. x ≡ name.now) }
+{
+    Name::of(alloc, name.as_slice())
+}
+
+/// What a name is bound to, once more.
+pub fn copy_ref(alloc: Global, name: &Ref) -> Result<Ref, AllocError>
+    ensures { IfOk result (λ x. ref_of x ≡ ref_of name.now) }
+{
+    Ok(match name {
+        Ref::Local(number) => Ref::Local(*number),
+        Ref::Param(number) => Ref::Param(*number),
+        Ref::Static(number) => Ref::Static(*number),
+        Ref::Ext(name) => Ref::Ext(copy_name(alloc, name)?),
+        Ref::Func(number) => Ref::Func(*number),
+        Ref::Outer(name) => Ref::Outer(copy_name(alloc, name)?),
+        Ref::Const(value) => Ref::Const(*value),
     })
 }
 
