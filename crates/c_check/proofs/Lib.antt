@@ -8,3 +8,4 @@ pub mod Entered
 pub mod Firsts
 pub mod Laying
 pub mod Parts
+pub mod Arms

@@ -1,7 +1,7 @@
 -- The outcome of an expression from those of its parts, and the environment behind it.
-use Rattle.std.proofs.Common.{◌≡◌, ℕ, ◌+◌, ◌<◌, List, [], ◌∷◌, ◌++◌, length, drop, slice_index_or, Result, Ok, Err, OnOk, Option, Some, None, append_assoc, append-nil, refl, sym, ap, ◌∙◌, subst, Vec, Box, Global}
+use Rattle.std.proofs.Common.{◌≡◌, ℕ, ◌+◌, ◌<◌, ◌≤◌, List, [], ◌∷◌, ◌++◌, length, drop, slice_index_or, Result, Ok, Err, OnOk, Option, Some, None, append_assoc, append-nil, refl, sym, ap, ◌∙◌, subst, Vec, Box, Global}
 use mathlib.Core.Former.{Count}
-use Rattle.std.proofs.lemmas.List.{drop_more}
+use Rattle.std.proofs.lemmas.List.{drop_more, drop_all}
 use Rattle.c_type.specs.declared.CType.{CType}
 use Rattle.c_type.specs.Of.{type_of}
 use Rattle.c_tree.specs.declared.expr.Expr as source
@@ -15,12 +15,12 @@ use Rattle.c_tree.specs.TreeOf as u
 use Rattle.c_tree.specs.TypedOf.{expr_of, args_of}
 use Rattle.c_tree.specs.RuleExprs as r
 use Rattle.c_tree.specs.RuleScope.{Judged, Is, Fails, onward, Env, met, past, meaning_of}
-use Rattle.c_tree.specs.RuleTexts.{texts_in_all}
+use Rattle.c_tree.specs.RuleTexts.{texts_in, texts_in_all}
 use Rattle.c_tree.specs.RuleValues.{scalar}
 use Rattle.c_check.specs.declared.error.TypeErr.{TypeErr}
 use Rattle.c_check.specs.declared.error.TypeErr.TheVariants.{Rule, Memory}
 use Rattle.c_check.specs.Judging.{judged_expr, judged_args, judged_called}
-use Rattle.c_check.specs.Arguments.{name_in, before, args_from}
+use Rattle.c_check.specs.Arguments.{name_in, before, args_from, judged_call}
 use Rattle.c_check.specs.Says.{Refused, Says}
 
 -- what a rule says of a part that was judged
@@ -74,10 +74,10 @@ third_refused c d g a b s f x y e j ed k eg h =
 
 -- texts that were met one behind the other
 pub met_on : (c : Env) (xs ys : List (List ℕ)) → met ys (met xs c) ≡ met (xs ++ ys) c
-met_on c xs ys = ap (λ ts. record c { texts = ts }) append_assoc
+met_on c xs ys = ap (λ ts. record c { texts = ts }) (append_assoc c.texts xs ys)
 
 pub met_none : (c : Env) → met [] c ≡ c
-met_none c = ap (λ ts. record c { texts = ts }) append-nil
+met_none c = ap (λ ts. record c { texts = ts }) (append-nil c.texts)
 
 pub on_ok : {T E : Type 0} (r : Result T E) (P : Type 0) → P → OnOk r P
 on_ok (Ok x) P h = h
@@ -110,13 +110,64 @@ pushed xs v (Fails n) = refl
 pub exprs_at : (args : List source.Expr) (i : ℕ) (a : source.Expr) → i < length args → a ≡ slice_index_or args i a → u.exprs_from (drop i args) ≡ more_exprs (u.expr_of a) (u.exprs_from (drop (i + 1) args))
 exprs_at args i a lt e = ap u.exprs_from (drop_more args i a lt) ∙ ap (λ x. more_exprs (u.expr_of x) (u.exprs_from (drop (i + 1) args))) (sym e)
 
--- one argument more
-pub passed : (whole : Judged TArgs) (c d : Env) (a : Expr) (es : Exprs) (xs : List node.TExpr) (x : TExpr) (v : node.TExpr) →
+-- before any argument
+pub rest_none : (j : Judged TArgs) → j ≡ rest_of [] j
+rest_none (Is vs) = refl
+rest_none (Fails n) = refl
+
+passed : (whole : Judged TArgs) (c d : Env) (a : Expr) (es : Exprs) (xs : List node.TExpr) (x : TExpr) (v : node.TExpr) →
     whole ≡ rest_of xs (judged_args c (more_exprs a es)) → judged_expr c a ≡ Is x → scalar 20 x ≡ Is (expr_of v) → d ≡ past a c → whole ≡ rest_of (xs ++ v ∷ []) (judged_args d es)
 passed whole c d a es xs x v h ea es' ed =
     h ∙ ap (λ j. rest_of xs (onward j (λ x. onward (scalar 20 x) (λ v. onward (judged_args (past a c) es) (λ vs. Is (more_args v vs)))))) ea
     ∙ ap (λ j. rest_of xs (onward j (λ v. onward (judged_args (past a c) es) (λ vs. Is (more_args v vs))))) es'
     ∙ pushed xs v (judged_args (past a c) es) ∙ ap (λ k. rest_of (xs ++ v ∷ []) (judged_args k es)) (sym ed)
+
+module _ (args : List source.Expr) (i : ℕ) (a : source.Expr) (lt : i < length args) (is : a ≡ slice_index_or args i a) where
+  -- one argument more
+  pub args_passed : (whole : Judged TArgs) (c d : Env) (xs ys : List node.TExpr) (x : TExpr) (v : node.TExpr) →
+      whole ≡ rest_of xs (judged_args c (u.exprs_from (drop i args))) → judged_expr c (u.expr_of a) ≡ Is x → scalar 20 x ≡ Is (expr_of v) → d ≡ past (u.expr_of a) c →
+      ys ≡ xs ++ v ∷ [] → whole ≡ rest_of ys (judged_args d (u.exprs_from (drop (i + 1) args)))
+  args_passed whole c d xs ys x v h ea ev ed ey =
+      passed whole c d (u.expr_of a) (u.exprs_from (drop (i + 1) args)) xs x v (h ∙ ap (λ es. rest_of xs (judged_args c es)) (exprs_at args i a lt is)) ea ev ed
+      ∙ ap (λ zs. rest_of zs (judged_args d (u.exprs_from (drop (i + 1) args)))) (sym ey)
+
+  pub texts_passed : (c d k : Env) → met (texts_in_all (u.exprs_from (drop i args))) c ≡ k → d ≡ past (u.expr_of a) c → met (texts_in_all (u.exprs_from (drop (i + 1) args))) d ≡ k
+  texts_passed c d k h ed =
+      ap (met (texts_in_all (u.exprs_from (drop (i + 1) args)))) ed ∙ met_on c (texts_in (u.expr_of a)) (texts_in_all (u.exprs_from (drop (i + 1) args)))
+      ∙ ap (λ es. met (texts_in_all es) c) (sym (exprs_at args i a lt is)) ∙ h
+
+  -- an argument that fails
+  pub arg_refused : (whole : Judged TArgs) (c : Env) (xs : List node.TExpr) (e : TypeErr) →
+      whole ≡ rest_of xs (judged_args c (u.exprs_from (drop i args))) → Refused (judged_expr c (u.expr_of a)) e → Refused whole e
+  arg_refused whole c xs (Rule n l) h ea =
+      h ∙ ap (λ es. rest_of xs (judged_args c es)) (exprs_at args i a lt is)
+      ∙ ap (λ j. rest_of xs (onward j (λ x. onward (scalar 20 x) (λ v. onward (judged_args (past (u.expr_of a) c) (u.exprs_from (drop (i + 1) args))) (λ vs. Is (more_args v vs)))))) ea
+  arg_refused whole c xs Memory h ea = tt
+
+  -- an argument that is no scalar
+  pub scalar_refused : (whole : Judged TArgs) (c : Env) (xs : List node.TExpr) (x : TExpr) (e : TypeErr) →
+      whole ≡ rest_of xs (judged_args c (u.exprs_from (drop i args))) → judged_expr c (u.expr_of a) ≡ Is x → Refused (scalar 20 x) e → Refused whole e
+  scalar_refused whole c xs x (Rule n l) h ea ev =
+      h ∙ ap (λ es. rest_of xs (judged_args c es)) (exprs_at args i a lt is)
+      ∙ ap (λ j. rest_of xs (onward j (λ x. onward (scalar 20 x) (λ v. onward (judged_args (past (u.expr_of a) c) (u.exprs_from (drop (i + 1) args))) (λ vs. Is (more_args v vs)))))) ea
+      ∙ ap (λ j. rest_of xs (onward j (λ v. onward (judged_args (past (u.expr_of a) c) (u.exprs_from (drop (i + 1) args))) (λ vs. Is (more_args v vs))))) ev
+  scalar_refused whole c xs x Memory h ea ev = tt
+
+-- behind the last argument
+pub args_end : (whole : Judged TArgs) (c : Env) (args : List source.Expr) (i : ℕ) (xs : List node.TExpr) → length args ≤ i →
+    whole ≡ rest_of xs (judged_args c (u.exprs_from (drop i args))) → whole ≡ Is (args_from xs)
+args_end whole c args i xs le h = h ∙ ap (λ as_. rest_of xs (judged_args c (u.exprs_from as_))) (drop_all i args le) ∙ ap Is (before_none xs)
+
+pub texts_end : (c k : Env) (args : List source.Expr) (i : ℕ) → length args ≤ i → met (texts_in_all (u.exprs_from (drop i args))) c ≡ k → c ≡ k
+texts_end c k args i le h = sym (met_none c) ∙ ap (λ as_. met (texts_in_all (u.exprs_from as_)) c) (sym (drop_all i args le)) ∙ h
+
+-- a call, by what is called and its arguments
+pub call_says : (c : Env) (f x : TExpr) (es : Exprs) (ys : TArgs) → r.called f ≡ Is x → judged_args c es ≡ Is ys → judged_call c f es ≡ Is (e.call (r.result_of (e.type_of x)) x ys)
+call_says c f x es ys ef ea = ap (λ j. onward j (λ x. onward (judged_args c es) (λ ys. Is (e.call (r.result_of (e.type_of x)) x ys)))) ef ∙ ap (λ j. onward j (λ ys. Is (e.call (r.result_of (e.type_of x)) x ys))) ea
+
+pub call_refused : (c : Env) (f x : TExpr) (es : Exprs) (w : TypeErr) → r.called f ≡ Is x → Refused (judged_args c es) w → Refused (judged_call c f es) w
+call_refused c f x es (Rule n l) ef ea = ap (λ j. onward j (λ x. onward (judged_args c es) (λ ys. Is (e.call (r.result_of (e.type_of x)) x ys)))) ef ∙ ap (λ j. onward j (λ ys. Is (e.call (r.result_of (e.type_of x)) x ys))) ea
+call_refused c f x es Memory ef ea = tt
 
 args_are : (n : _) (row : node.TheBlock.Row_of-TExpr n) → args_of row ≡ args_from (node.TheBlock.items-the_row-TExpr n row)
 args_are n node.TheBlock.end_of-TExpr = refl

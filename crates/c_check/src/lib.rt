@@ -19,6 +19,7 @@ mod here;
 mod layout;
 mod names;
 mod operators;
+mod parts;
 mod postfix;
 mod scope;
 mod scopes;
