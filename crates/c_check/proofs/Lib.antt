@@ -7,5 +7,8 @@ pub mod Indexed
 pub mod Entered
 pub mod Firsts
 pub mod Laying
-pub mod Parts
 pub mod Arms
+pub mod Blocks
+pub mod Declared
+pub mod Parts
+pub mod TagsIn

@@ -5,11 +5,10 @@ ghost use Rattle.indexmap.specs.IndexMap.{get_by};
 ghost use Rattle.c_tree.specs.RuleScope.{body_from};
 ghost use Rattle.c_check.specs.Entries.{body_of};
 
-use crate::error::TypeErr;
 use crate::first::insert_first;
 use indexmap::IndexMap;
 use num_le::Name;
-use std::alloc::Global;
+use std::alloc::{AllocError, Global};
 
 /// A function body of a unit.
 #[derive(Drop)]
@@ -43,10 +42,10 @@ impl Bodies {
         }
     }
 
-    fn add_own(&mut self, name: Name) -> Result<(), TypeErr>
+    fn add_own(&mut self, name: Name) -> Result<(), AllocError>
         ensures added { OnOk result (bodies_of self.new ≡ bodies_of self.old ++ record { name = name; is_static = true } ∷ []) }
     {
-        let number = u32::try_from(self.list.len()).map_err(|_| TypeErr::Memory)?;
+        let number = u32::try_from(self.list.len()).map_err(|_| AllocError)?;
         self.list.reserve(1)?;
         insert_first(&mut self.own, name.as_slice(), number)?;
         let is_static = true;
@@ -54,10 +53,10 @@ impl Bodies {
         Ok(())
     }
 
-    fn add_outside(&mut self, name: Name) -> Result<(), TypeErr>
+    fn add_outside(&mut self, name: Name) -> Result<(), AllocError>
         ensures added { OnOk result (bodies_of self.new ≡ bodies_of self.old ++ record { name = name; is_static = false } ∷ []) }
     {
-        let number = u32::try_from(self.list.len()).map_err(|_| TypeErr::Memory)?;
+        let number = u32::try_from(self.list.len()).map_err(|_| AllocError)?;
         self.list.reserve(1)?;
         insert_first(&mut self.outside, name.as_slice(), number)?;
         let is_static = false;
@@ -66,7 +65,7 @@ impl Bodies {
     }
 
     /// Adds a body behind the others.
-    pub fn add(&mut self, name: Name, is_static: bool) -> Result<(), TypeErr>
+    pub fn add(&mut self, name: Name, is_static: bool) -> Result<(), AllocError>
         ensures added { OnOk result (bodies_of self.new ≡ bodies_of self.old ++ record { name = name; is_static = is_static } ∷ []) }
     {
         if is_static {

@@ -10,8 +10,9 @@ ghost use Rattle.c_check.specs.Says.{Says};
 
 use crate::error::TypeErr;
 use crate::operators::{are_alike, meeting};
-use crate::types::{is_integer, is_void};
+use crate::types::is_integer;
 use crate::values::{is_with_zero, scalar, to_type, type_of, used, widen};
+use crate::words::is_void;
 use c_tree::TExpr;
 use c_type::{CType, Tags};
 use std::alloc::{AllocError, Global};

@@ -13,7 +13,7 @@ use crate::first::insert_first;
 use c_type::{CType, TagId, TagKind};
 use indexmap::IndexMap;
 use num_le::Name;
-use std::alloc::Global;
+use std::alloc::{AllocError, Global};
 
 /// A tag that a unit defines. Its name is empty where it has none.
 #[derive(Drop)]
@@ -68,10 +68,10 @@ impl Heads {
     }
 
     /// Adds a tag behind the others.
-    pub fn add(&mut self, name: Name, kind: TagKind) -> Result<(), TypeErr>
+    pub fn add(&mut self, name: Name, kind: TagKind) -> Result<(), AllocError>
         ensures added { OnOk result (heads_of self.new ≡ heads_of self.old ++ record { name = name; kind = kind } ∷ []) }
     {
-        let number = u32::try_from(self.list.len()).map_err(|_| TypeErr::Memory)?;
+        let number = u32::try_from(self.list.len()).map_err(|_| AllocError)?;
         self.list.reserve(1)?;
         insert_first(&mut self.index, name.as_slice(), (number, kind))?;
         self.list.push(Head { name, kind }).unwrap();

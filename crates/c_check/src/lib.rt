@@ -6,6 +6,7 @@
 //! exact by the rule of its name.
 #![tactic(auto)]
 
+mod again;
 mod assignments;
 mod bodies;
 mod by_operator;
@@ -23,6 +24,7 @@ mod parts;
 mod postfix;
 mod scope;
 mod scopes;
+mod tags_in;
 mod types;
 mod unary;
 mod values;

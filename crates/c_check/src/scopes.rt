@@ -16,11 +16,14 @@ ghost use Rattle.c_check.specs.Entries.{meaning_of};
 ghost use Rattle.c_check.specs.EnvOf.{scope_of, blocks_of};
 ghost use Rattle.c_check.specs.Says.{Says};
 
+use crate::again::again;
 use crate::bodies::Bodies;
 use crate::error::TypeErr;
 use crate::heads::Heads;
 use crate::layout::lay;
 use crate::scope::{Meaning, Scope};
+use crate::tags_in::{bodies_in, heads_in};
+use crate::types::{copy, copy_name};
 use c_tree::{Ref, TParam, Unit};
 use c_type::{CType, Tag, TagKind, Tags};
 use num_le::Name;
@@ -28,7 +31,7 @@ use std::alloc::{AllocError, Global};
 
 /// Where a part of a unit stands.
 ///
-/// After an error nothing is said of it.
+/// After an error nothing is said of it. A number that would pass 4294967295 is want of memory too.
 #[derive(Drop)]
 pub struct Scopes {
     // The scopes inside a function, the innermost last.
@@ -44,10 +47,20 @@ pub struct Scopes {
 }
 
 /// The scope of a function's parameters.
-fn parameter_scope(alloc: Global, params: &[TParam]) -> Result<Scope, TypeErr>
+fn parameter_scope(alloc: Global, params: &[TParam]) -> Result<Scope, AllocError>
     ensures value { IfOk result (λ x. scope_of x ≡ u.parameter_scope 0 (map var_of params.now)) }
 {
-    Err(TypeErr::Memory)
+    let mut scope = Scope::new(alloc);
+    let mut left = params.len();
+    while left > 0 {
+        left -= 1;
+        let param = &params[left];
+        let number = u32::try_from(left).map_err(|_| AllocError)?;
+        let name = copy_name(alloc, &param.name)?;
+        let ty = copy(alloc, &param.ty)?;
+        scope.add(name, Meaning::Thing(Ref::Param(number), ty))?;
+    }
+    Ok(scope)
 }
 
 /// What a name means in the innermost of the scopes that declares it.
@@ -69,10 +82,24 @@ impl Scopes {
     ghost use Rattle.c_check.specs.Blocks.{around};
 
     /// Where the first part of a unit stands.
-    pub fn at_first(alloc: Global, unit: &Unit) -> Result<Scopes, TypeErr>
+    pub fn at_first(alloc: Global, unit: &Unit) -> Result<Scopes, AllocError>
         ensures first { IfOk result (λ c. env_of c ≡ u.at_first (unit_of unit.now)) }
     {
-        Err(TypeErr::Memory)
+        let heads = heads_in(alloc, unit)?;
+        let bodies = bodies_in(alloc, unit)?;
+        Ok(Scopes {
+            blocks: Vec::new(alloc),
+            file: Scope::new(alloc),
+            tags: Tags {
+                list: Vec::new(alloc),
+            },
+            texts: Vec::new(alloc),
+            starts: 0,
+            autos: 0,
+            statics: 0,
+            heads,
+            bodies,
+        })
     }
 
     /// The allocator of what is declared.
@@ -143,30 +170,30 @@ impl Scopes {
     }
 
     /// The number of a text, which is met here. Its bytes have the zero byte too.
-    pub fn text(&mut self, bytes: Name) -> Result<u32, TypeErr>
+    pub fn text(&mut self, bytes: Name) -> Result<u32, AllocError>
         ensures number { IfOk result (λ k. k ≡ length (env_of self.old).texts) }
         ensures met { OnOk result (env_of self.new ≡ r.met (bytes ∷ []) (env_of self.old)) }
     {
-        let number = u32::try_from(self.texts.len()).map_err(|_| TypeErr::Memory)?;
+        let number = u32::try_from(self.texts.len()).map_err(|_| AllocError)?;
         self.texts.push(bytes)?;
         Ok(number)
     }
 
     /// Passes the next starts.
-    pub fn started(&mut self, count: u32) -> Result<(), TypeErr>
+    pub fn started(&mut self, count: u32) -> Result<(), AllocError>
         ensures past { OnOk result (env_of self.new ≡ r.started count (env_of self.old)) }
     {
-        self.starts = self.starts.checked_add(count).ok_or(TypeErr::Memory)?;
+        self.starts = self.starts.checked_add(count).ok_or(AllocError)?;
         Ok(())
     }
 
     /// The number of the next automatic object of the function.
-    pub fn next_auto(&mut self) -> Result<u32, TypeErr>
+    pub fn next_auto(&mut self) -> Result<u32, AllocError>
         ensures number { IfOk result (λ k. k ≡ (env_of self.old).autos) }
         ensures past { OnOk result (env_of self.new ≡ record (env_of self.old) { autos = suc (env_of self.old).autos }) }
     {
         let number = self.autos;
-        self.autos = number.checked_add(1).ok_or(TypeErr::Memory)?;
+        self.autos = number.checked_add(1).ok_or(AllocError)?;
         Ok(number)
     }
 
@@ -182,7 +209,10 @@ impl Scopes {
         ensures judged { Says (λ _. env_of self.new) (declared_here (env_of self.old) name (meaning_of meaning)) result }
     {
         if self.blocks.is_empty() {
-            self.enter()?;
+            let mut scope = Scope::new(self.alloc());
+            scope.add(name, meaning)?;
+            self.blocks.push(scope)?;
+            return Ok(());
         }
         let innermost = self.blocks.len() - 1;
         if !self.blocks[innermost].is_free(name.as_slice()) {
@@ -193,7 +223,7 @@ impl Scopes {
     }
 
     /// Declares a name in the file.
-    pub fn add_in_file(&mut self, name: Name, meaning: Meaning) -> Result<(), TypeErr>
+    pub fn add_in_file(&mut self, name: Name, meaning: Meaning) -> Result<(), AllocError>
         ensures added { OnOk result (env_of self.new ≡ t.in_file (record { name = name; meaning = meaning_of meaning }) (env_of self.old)) }
     {
         self.file.add(name, meaning)?;
@@ -201,6 +231,7 @@ impl Scopes {
     }
 
     /// Declares an object or a function in the file, perhaps once more.
+    #[tactic(auto, using(crate::proofs::Declared::first_declared, crate::proofs::Declared::again_declared, crate::proofs::Declared::again_refused), unfolding(crate::specs::EnvOf::env_of))]
     pub fn declare_in_file(
         &mut self,
         line: u32,
@@ -209,11 +240,17 @@ impl Scopes {
     ) -> Result<(), TypeErr>
         ensures judged { Says (λ _. env_of self.new) (declared_in_file (env_of self.old) name (meaning_of meaning)) result }
     {
-        Err(TypeErr::Memory)
+        let Some(old) = self.in_file(name.as_slice()) else {
+            return Ok(self.add_in_file(name, meaning)?);
+        };
+        let Some(meaning) = again(self.alloc(), old, &meaning)? else {
+            return Err(TypeErr::Rule(1, line));
+        };
+        Ok(self.add_in_file(name, meaning)?)
     }
 
     /// Enters a block.
-    pub fn enter(&mut self) -> Result<(), TypeErr>
+    pub fn enter(&mut self) -> Result<(), AllocError>
         ensures inside { OnOk result (env_of self.new ≡ s.enter (env_of self.old)) }
     {
         let scope = Scope::new(self.alloc());
@@ -229,7 +266,7 @@ impl Scopes {
     }
 
     /// Closes a tag's body: its sizes and offsets are those that its members' types give.
-    pub fn close(&mut self, mut tag: Tag) -> Result<(), TypeErr>
+    pub fn close(&mut self, mut tag: Tag) -> Result<(), AllocError>
         ensures closed { OnOk result (env_of self.new ≡ r.close (o.tag_of tag) (env_of self.old)) }
     {
         lay(&self.tags, &mut tag);
@@ -238,7 +275,7 @@ impl Scopes {
     }
 
     /// Passes the opening brace of a function's body, which begins the scope of its parameters.
-    pub fn enter_body(&mut self, params: &[TParam]) -> Result<(), TypeErr>
+    pub fn enter_body(&mut self, params: &[TParam]) -> Result<(), AllocError>
         ensures inside { OnOk result (env_of self.new ≡ u.in_body (map var_of params.now) (env_of self.old)) }
     {
         let scope = parameter_scope(self.alloc(), params)?;
@@ -250,7 +287,7 @@ impl Scopes {
     }
 
     /// Passes the closing brace of a function's body.
-    pub fn leave_body(&mut self) -> Result<(), TypeErr>
+    pub fn leave_body(&mut self) -> Result<(), AllocError>
         ensures outside { OnOk result (env_of self.new ≡ record (r.started 1 (env_of self.old)) { blocks = [] }) }
     {
         self.blocks.clear();

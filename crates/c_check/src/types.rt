@@ -6,6 +6,7 @@ ghost use Rattle.c_tree.specs.TypedOf.{ref_of};
 ghost use Rattle.c_tree.specs.RuleTypes as r;
 ghost use Rattle.c_tree.specs.RuleScope.{known, is_sized as is_sized_rule};
 ghost use Rattle.c_tree.specs.RuleValues as v;
+ghost use Rattle.c_tree.specs.TypedOf.{ref_of};
 ghost use Rattle.c_check.specs.Closed.{closed};
 
 use c_tree::Ref;
@@ -94,13 +95,6 @@ pub fn is_function(ty: &CType) -> bool
     ensures { result ≡ r.is_function (type_of ty.now) }
 {
     matches!(ty, CType::Fun(_))
-}
-
-/// `void`, which is no value.
-pub fn is_void(ty: &CType) -> bool
-    ensures { result ≡ r.is_void (type_of ty.now) }
-{
-    matches!(ty, CType::Void)
 }
 
 /// What a pointer points to, or a function's result.

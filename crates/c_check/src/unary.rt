@@ -8,8 +8,9 @@ ghost use Rattle.c_check.specs.Closed.{closed};
 ghost use Rattle.c_check.specs.Says.{Says};
 
 use crate::error::TypeErr;
-use crate::types::{is_function, is_object_pointer, is_sized, is_void, target_is_sized};
+use crate::types::{is_function, is_object_pointer, is_sized, target_is_sized};
 use crate::values::{integer, is_taken, scalar, type_of, used};
+use crate::words::is_void;
 use c_tree::{Ref, TExpr, TStep, TUnary};
 use c_type::{CType, Kind, Tags};
 use std::alloc::Global;
