@@ -17,7 +17,7 @@ use Rattle.c_tree.specs.RuleTexts.{texts_in}
 use Rattle.c_check.specs.declared.error.TypeErr.{TypeErr}
 use Rattle.c_check.specs.Judging.{judged_expr}
 use Rattle.c_check.specs.Says.{Refused, Says}
-use Rattle.c_check.proofs.Parts.{onward_refused, one_says, two_says, second_refused, met_on, on_ok}
+use Rattle.c_check.proofs.Outcomes.{onward_refused, one_says, two_says, second_refused, met_on, on_ok}
 
 -- a production of one part, with its rule
 abbrev pub RulesOne : (Expr → Expr) → (Env → TExpr → Judged TExpr) → Type 0

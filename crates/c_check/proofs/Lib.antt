@@ -10,5 +10,5 @@ pub mod Laying
 pub mod Arms
 pub mod Blocks
 pub mod Declared
-pub mod Parts
+pub mod Outcomes
 pub mod TagsIn
