@@ -2,8 +2,8 @@
 //!
 //! Between the rules, which are relations, and a checker stands a typing function on trees. Three
 //! laws join them, each the contract of a function that does nothing. The checker itself isn't
-//! written yet: of its code stand types, values and the operators that ask for no constant, each
-//! exact by the rule of its name.
+//! whole yet: of its code stand the scopes, types, values, constants and expressions, each exact by
+//! the rule of its name.
 #![tactic(auto)]
 
 mod again;
