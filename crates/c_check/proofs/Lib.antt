@@ -10,3 +10,8 @@ pub mod Laying
 pub mod TagsIn
 pub mod Blocks
 pub mod Declared
+pub mod FromHere
+pub mod LabelsDiffer
+pub mod NamesDiffer
+pub mod Outside
+pub mod TypedRows

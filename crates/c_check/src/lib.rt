@@ -11,6 +11,7 @@ mod bodies;
 mod error;
 mod first;
 mod heads;
+mod labels;
 mod layout;
 mod operators;
 mod scope;
