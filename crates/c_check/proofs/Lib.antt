@@ -15,3 +15,4 @@ pub mod LabelsDiffer
 pub mod NamesDiffer
 pub mod Outside
 pub mod TypedRows
+pub mod Lists

@@ -1,4 +1,4 @@
--- The trees of typed statements that hold a `Vec` of trees, from the lists of their parts.
+-- The trees of typed statements and types that hold a `Vec` of trees, from the lists of their parts.
 use Rattle.std.proofs.Common.{◌≡◌, ℕ, List, [], ◌∷◌, refl, ap, ◌∙◌, Vec, Global, map}
 use mathlib.Core.Former.{Count}
 use Rattle.c_tree.specs.declared.typed_expr.TExpr.{TExpr}
@@ -6,8 +6,9 @@ use Rattle.c_tree.specs.declared.typed_stmt.TStmt as d
 use Rattle.c_tree.specs.declared.typed_stmt.TStmt.{TStmt}
 use Rattle.c_tree.specs.declared.typed_stmt.TBlock.{TBlock}
 use Rattle.c_tree.specs.declared.typed_stmt.TSwItem.{TSwItem}
-use Rattle.c_tree.specs.TStmt.{switch, block, more_stmts}
+use Rattle.c_tree.specs.TStmt.{no_stmts, no_items, switch, block, more_stmts}
 use Rattle.c_tree.specs.TypedOf.{expr_of, stmt_of, stmts_of, stmts_from, item_of, items_of, items_from, local_decl_of}
+use Rattle.c_check.proofs.Lists.{onto}
 
 stmts_are : (n : _) (row : d.TheBlock.Row_of-TStmt n) → stmts_of row ≡ stmts_from (d.TheBlock.items-the_row-TStmt n row)
 stmts_are n d.TheBlock.end_of-TStmt = refl
@@ -34,3 +35,12 @@ pub block_is : (b : TBlock) → stmt_of (d.TheVariants.Block b) ≡ block b.line
 block_is b =
     let row = stmts_in (d.TheVariants.Block b) in
     ap (λ x. block b.line (map local_decl_of b.locals.items) x b.close_line) (stmts_are row.0 row.1 ∙ ap stmts_from (d.TheBlock.items_hidden-the_row-TStmt-1 b.stmts))
+
+-- the statements and the parts of a switch that were typed, with none behind them
+pub all_stmts : (ss : List TStmt) → onto (λ s rest. more_stmts (stmt_of s) rest) ss no_stmts ≡ stmts_from ss
+all_stmts [] = refl
+all_stmts (s ∷ ss) = ap (λ x. more_stmts (stmt_of s) x) (all_stmts ss)
+
+pub all_items : (is : List TSwItem) → onto item_of is no_items ≡ items_from is
+all_items [] = refl
+all_items (i ∷ is) = ap (item_of i) (all_items is)

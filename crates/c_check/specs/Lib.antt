@@ -7,3 +7,4 @@ pub mod EnvOf
 pub mod Places
 pub mod Entries
 pub mod Blocks
+pub mod PlaceOf

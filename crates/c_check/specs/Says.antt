@@ -1,7 +1,7 @@
 -- What an answer of the code says of an outcome: the value that a rule gives, or the number of a rule that fails.
 use Rattle.std.specs.Prelude.{◌≡◌, Result, Ok, Err}
-use Rattle.c_tree.specs.RuleScope.{Judged, Is, Fails, Env}
-use Rattle.c_check.specs.Judging.{Behind}
+use Rattle.c_tree.specs.RuleScope.{Judged, Is, Fails, onward, Env}
+use Rattle.c_check.specs.Judging.{Behind, behind}
 use Rattle.c_check.specs.declared.error.TypeErr.{TypeErr}
 use Rattle.c_check.specs.declared.error.TypeErr.TheVariants.{Rule, Memory}
 
@@ -17,3 +17,8 @@ Says view j (Err e) = Refused j e
 -- the same where the rule gives a tree with the environment behind it
 abbrev pub SaysBehind : {T A : Type 0} → (T → A) → Env → Judged (Behind A) → Result T TypeErr → Type 0
 SaysBehind view c j r = Says (λ x. record { tree = view x; env = c }) j r
+
+-- The same of the first part of a list: the outcome of the whole list is that of the parts behind it, put behind this one.
+abbrev pub SaysFirst : {T A : Type 0} → (T → A → A) → (whole rest : Judged (Behind A)) → Result T TypeErr → Type 0
+SaysFirst view whole rest (Ok x) = whole ≡ onward rest (λ r. behind (view x r.tree) r.env)
+SaysFirst view whole rest (Err e) = Refused whole e
