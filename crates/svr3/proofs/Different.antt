@@ -8,7 +8,7 @@ use Rattle.std.proofs.lemmas.Cmp.{nat_list_eq_equiv}
 use Rattle.std.proofs.lemmas.List.{length-map, map-append}
 use Rattle.indexmap.specs.IndexSet.{insert_key}
 use Rattle.c_type.specs.Names.{Name, same_name}
-use Rattle.svr3.specs.SmallForm.{place_in, stands_in, are_different}
+use Rattle.svr3.specs.Different.{place_in, stands_in, are_different}
 
 sides : (x y : Name) → bytes_eq x y ≡ bytes_eq y x
 sides x y = nat_list_eq_equiv.symm x y

@@ -24,7 +24,8 @@ use Rattle.c_tree.specs.WrittenDeclr.{declared}
 use Rattle.gen_expr.specs.Small.{IsSmall, IsVariable, IsSum}
 use Rattle.gen_expr.specs.Forms.{AreThere, IsNumbered}
 use Rattle.gen_expr.specs.Mains.{AllInt, AllPlain}
-use Rattle.svr3.specs.SmallForm.{place_in, variable, number, putchar, sum_of, joined, sum_in, variable_in, is_putchar, argument_in, action_in, at_line, is_line, looped, returned, followed, assigned, called, stmt_in, stmts_in, stmt_starts, stmts_starts, object, locals_in, decls_in, names_in}
+use Rattle.svr3.specs.Different.{place_in}
+use Rattle.svr3.specs.SmallForm.{variable, number, putchar, sum_of, joined, sum_in, variable_in, is_putchar, argument_in, action_in, at_line, is_line, looped, returned, followed, assigned, called, stmt_in, stmts_in, stmt_starts, stmts_starts, object, locals_in, decls_in, names_in}
 use Rattle.svr3.proofs.SmallTrees.{place_below}
 
 pub none_some : {A : Type 0} (x : A) → None ≡ Some x → ⊥

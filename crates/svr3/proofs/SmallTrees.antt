@@ -32,7 +32,8 @@ use Rattle.c_tree.specs.TreeStmt as us
 use Rattle.c_tree.specs.TreeStmt.{stmt_depth, stmts_depth, block_depth}
 use Rattle.c_tree.specs.TreeOf as u
 use Rattle.c_tree.specs.TypedOf as o
-use Rattle.svr3.specs.SmallForm.{place_in, argument_in, is_putchar, putchar, called, action_in, as_stmt, stmt_in, stmts_in, followed, stmt_starts, stmts_starts}
+use Rattle.svr3.specs.Different.{place_in}
+use Rattle.svr3.specs.SmallForm.{argument_in, is_putchar, putchar, called, action_in, as_stmt, stmt_in, stmts_in, followed, stmt_starts, stmts_starts}
 
 -- the place of a name is a place of the list
 pub place_below : (ns : List Name) (x : Name) (i : ℕ) → place_in ns x ≡ Some i → i < length ns

@@ -23,7 +23,8 @@ use Rattle.c_tree.specs.RuleValues.{used, used_as, to_type, wide, widen, meeting
 use Rattle.c_tree.specs.RuleExprs as r
 use Rattle.c_tree.specs.RuleTree.{IsExpr, IsCalled, AreArgs}
 use Rattle.c_tree.specs.RuleStmts.{Place, in_loop, enter, leave, IsStmt, AreStmts}
-use Rattle.svr3.specs.SmallForm.{place_in, variable, number, putchar, sum_of, sum_in, variable_in, is_putchar, argument_in, action_in, stmt_in, stmts_in, stmt_starts, stmts_starts}
+use Rattle.svr3.specs.Different.{place_in}
+use Rattle.svr3.specs.SmallForm.{variable, number, putchar, sum_of, sum_in, variable_in, is_putchar, argument_in, action_in, stmt_in, stmts_in, stmt_starts, stmts_starts}
 use Rattle.svr3.proofs.Shaped.{none_some, some_is, mapped, picked, sum_parts, assignment_parts, call_parts, loop_parts, return_parts, done_parts, more_parts}
 
 -- variables of these names are in scope, by their places, and putchar is declared nowhere

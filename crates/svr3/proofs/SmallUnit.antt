@@ -30,7 +30,8 @@ use Rattle.c_tree.specs.RuleTags.{in_file}
 use Rattle.c_tree.specs.RuleUnit.{IsTyped, at_first, at_body, in_body}
 use Rattle.svr3.specs.declared.small_form.Fault.{Fault}
 use Rattle.svr3.specs.Given.{Gives}
-use Rattle.svr3.specs.SmallForm.{place_in, is_int, is_bare, is_plain, names_in, object, locals_in, decls_in, stands_in, are_different, is_free, is_body, body_in, main_with, is_main, main_in, only_main, small_main, unit_of_main, stmts_in, stmts_starts, are_variables, is_line}
+use Rattle.svr3.specs.Different.{place_in, stands_in, are_different}
+use Rattle.svr3.specs.SmallForm.{is_int, is_bare, is_plain, names_in, object, locals_in, decls_in, is_free, is_body, body_in, main_with, is_main, main_in, only_main, small_main, unit_of_main, stmts_in, stmts_starts, are_variables, is_line}
 use Rattle.svr3.proofs.Shaped.{none_some, some_is, mapped, picked}
 use Rattle.svr3.proofs.SmallTyped.{Holds, stmts_typed}
 

@@ -1,8 +1,8 @@
 use Rattle.std.proofs.Common.{◌≡◌, ap, ◌∙◌}
-use Rattle.svr3.specs.SmallForm.{place_in}
-use Rattle.svr3.specs.Variables.{names_of}
+use Rattle.svr3.specs.Different.{place_in}
+use Rattle.svr3.specs.NameSets.{names_of}
 use Rattle.svr3.proofs.Different.{place_among}
-use Rattle.svr3.proofs.variables.Variables.place.Goals as goal
+use Rattle.svr3.proofs.name_set.NameSet.place.Goals as goal
 
 pub returns : goal.returns
 returns c = record {
