@@ -1,5 +1,4 @@
 pub mod Digits
-pub mod Worded
 pub mod Sending
 pub mod Calling
 pub mod Executing
@@ -12,6 +11,11 @@ pub mod Shaped
 pub mod Tokened
 pub mod UnitFits
 pub mod MainFits
+pub mod Wording
+pub mod Firsts
+pub mod Fronting
+pub mod Causes
 pub mod Compiling
+pub mod Filing
 pub mod Ending
 pub mod Answering
