@@ -2,18 +2,27 @@
 use crate::answer::{End, Refusal, status};
 use crate::top::svr3;
 use crate::words::Words;
+use c_whole::JoinErr;
 use num_le::Name;
 use outside::{MemFiles, MemSink, MemSource};
 use std::alloc::Global;
 use std::process::Abort;
 use std::test::Fail;
 
-// What a call over `one.c` is made of: its words, the text, the calls of the files that fail, and those of the output.
+// What a call is made of: its words, the files with their texts, the calls of the files that fail, and those of the output.
 struct Call<'a> {
     words: &'a Words,
-    text: &'a [u8],
+    files: &'a [(&'a [u8], &'a [u8])],
     read_fails: &'a [u32],
     write_fails: &'a [u32],
+}
+
+fn files_of(alloc: Global, call: &Call<'_>) -> Result<MemFiles, Fail> {
+    let mut list = Vec::new(alloc);
+    for (name, text) in call.files {
+        list.push((Name::of(alloc, name)?, text.to_vec(alloc)?))?;
+    }
+    Ok(MemFiles::new(alloc, list, call.read_fails.to_vec(alloc)?))
 }
 
 // The end of a call, whose output and line are compared.
@@ -24,9 +33,7 @@ fn end_of(
     output: &[u8],
     line: &[u8],
 ) -> Result<End, Fail> {
-    let mut list = Vec::new(alloc);
-    list.push((Name::of(alloc, b"one.c")?, call.text.to_vec(alloc)?))?;
-    let mut files = MemFiles::new(alloc, list, call.read_fails.to_vec(alloc)?);
+    let mut files = files_of(alloc, call)?;
     let mut commands = MemSource::new(Vec::new(alloc), Vec::new(alloc));
     let mut out = MemSink::new(alloc, output.len(), call.write_fails.to_vec(alloc)?)?;
     let mut err = MemSink::new(alloc, 100, Vec::new(alloc))?;
@@ -60,7 +67,7 @@ fn status_of(rt: &impl Abort, alloc: Global, text: &[u8]) -> Result<u8, Fail> {
     let words = run_file(alloc)?;
     let call = Call {
         words: &words,
-        text,
+        files: &[(b"one.c".as_slice(), text)],
         read_fails: &[],
         write_fails: &[],
     };
@@ -75,7 +82,7 @@ fn a_loop_writes_its_letters(rt: HostRuntime) -> Result<(), Fail> {
     let words = run_file(rt.alloc())?;
     let call = Call {
         words: &words,
-        text: COUNTDOWN,
+        files: &[(b"one.c".as_slice(), COUNTDOWN)],
         read_fails: &[],
         write_fails: &[],
     };
@@ -120,7 +127,7 @@ fn a_loop_without_end_spends_its_budget(rt: HostRuntime) -> Result<(), Fail> {
     let words = words_of(alloc, &list)?;
     let call = Call {
         words: &words,
-        text: b"main() { int x; while (1) x = x; }",
+        files: &[(b"one.c".as_slice(), b"main() { int x; while (1) x = x; }".as_slice())],
         read_fails: &[],
         write_fails: &[],
     };
@@ -137,7 +144,7 @@ fn a_million_bytes_are_written(rt: HostRuntime) -> Result<(), Fail> {
     let output = vec![in alloc; b'.'; 1_000_000]?;
     let call = Call {
         words: &words,
-        text: b"main() { int n; n = 1000000; while (n) { putchar(46); n = n - 1; } return 9; }",
+        files: &[(b"one.c".as_slice(), b"main() { int n; n = 1000000; while (n) { putchar(46); n = n - 1; } return 9; }".as_slice())],
         read_fails: &[],
         write_fails: &[],
     };
@@ -146,26 +153,55 @@ fn a_million_bytes_are_written(rt: HostRuntime) -> Result<(), Fail> {
     Ok(())
 }
 
-// A text that isn't of the small form.
-fn is_refused(rt: &impl Abort, alloc: Global, text: &[u8]) -> Result<(), Fail> {
-    let words = run_file(alloc)?;
+// Files of these texts, `a.c` and on, whose program is refused with this line.
+fn is_refused_as(
+    rt: &impl Abort,
+    alloc: Global,
+    files: &[(&[u8], &[u8])],
+    line: &[u8],
+) -> Result<End, Fail> {
+    let mut words = words_of(alloc, &[b"run".as_slice()])?;
+    for (name, _) in files {
+        words.push(name)?;
+    }
     let call = Call {
         words: &words,
-        text,
+        files,
         read_fails: &[],
         write_fails: &[],
     };
-    let end = end_of(rt, alloc, &call, b"", b"svr3: refused: unbuilt\n")?;
-    assert!(rt; matches!(end, End::Refused(Refusal::Unbuilt)));
+    let end = end_of(rt, alloc, &call, b"", line)?;
     assert_eq!(rt; status(&end), 4);
+    Ok(end)
+}
+
+// A text that is refused with this line.
+fn says(rt: &impl Abort, alloc: Global, text: &[u8], line: &[u8]) -> Result<End, Fail> {
+    is_refused_as(rt, alloc, &[(b"one.c".as_slice(), text)], line)
+}
+
+// Two texts that are refused with this line.
+fn both_say(
+    rt: &impl Abort,
+    alloc: Global,
+    first: &[u8],
+    second: &[u8],
+    line: &[u8],
+) -> Result<End, Fail> {
+    let files = [(b"a.c".as_slice(), first), (b"b.c".as_slice(), second)];
+    is_refused_as(rt, alloc, &files, line)
+}
+
+// A text that is a program, but none of the small form.
+fn is_refused(rt: &impl Abort, alloc: Global, text: &[u8]) -> Result<(), Fail> {
+    let end = says(rt, alloc, text, b"svr3: refused: unbuilt\n")?;
+    assert!(rt; matches!(end, End::Refused(Refusal::Unbuilt)));
     Ok(())
 }
 
 #[test]
-fn another_text_is_refused(rt: HostRuntime) -> Result<(), Fail> {
+fn another_program_is_refused(rt: HostRuntime) -> Result<(), Fail> {
     let alloc = rt.alloc();
-    is_refused(&rt, alloc, b"main() { return x; }")?;
-    is_refused(&rt, alloc, b"main() { int x, x; return 1; }")?;
     is_refused(&rt, alloc, b"main() { int putchar; return 1; }")?;
     is_refused(&rt, alloc, b"main() { ; return 1; }")?;
     is_refused(&rt, alloc, b"main() { int x; x = 1 * 2; return x; }")?;
@@ -173,11 +209,124 @@ fn another_text_is_refused(rt: HostRuntime) -> Result<(), Fail> {
     is_refused(&rt, alloc, b"main() { return 1l; }")?;
     is_refused(&rt, alloc, b"main() { { int x; } return 1; }")?;
     is_refused(&rt, alloc, b"main() { return; }")?;
-    is_refused(&rt, alloc, b"main(a) { return 1; }")?;
     is_refused(&rt, alloc, b"int main() { return 1; }")?;
-    is_refused(&rt, alloc, b"main() { return 7; } /*/")?;
     is_refused(&rt, alloc, b"main() { return 7; } int x;")?;
-    is_refused(&rt, alloc, b"")?;
+    Ok(())
+}
+
+#[test]
+fn a_text_that_is_no_c_is_refused(rt: HostRuntime) -> Result<(), Fail> {
+    let alloc = rt.alloc();
+    let line = b"svr3: refused: one.c:1: syntax\n";
+    let end = says(&rt, alloc, b"main( { }", line)?;
+    assert!(rt; matches!(end, End::Refused(Refusal::Syntax { file: 0, line: 1 })));
+    says(&rt, alloc, b"main() { return 7; } /*/", line)?;
+    let line = b"svr3: refused: one.c:3: syntax\n";
+    says(&rt, alloc, b"main()\n{\n?\n}", line)?;
+    Ok(())
+}
+
+#[test]
+fn a_rule_that_fails_is_named(rt: HostRuntime) -> Result<(), Fail> {
+    let alloc = rt.alloc();
+    let line = b"svr3: refused: one.c:1: rule 2\n";
+    let end = says(&rt, alloc, b"main() { return x; }", line)?;
+    assert!(rt;
+        matches!(
+            end,
+            End::Refused(Refusal::Rule {
+                file: 0,
+                line: 1,
+                rule: 2
+            })
+        )
+    );
+    let line = b"svr3: refused: one.c:1: rule 1\n";
+    says(&rt, alloc, b"main() { int x, x; return 1; }", line)?;
+    Ok(())
+}
+
+#[test]
+fn a_check_of_the_join_that_fails_is_named(rt: HostRuntime) -> Result<(), Fail> {
+    let alloc = rt.alloc();
+    let line = b"svr3: refused: nomain\n";
+    let end = says(&rt, alloc, b"", line)?;
+    assert!(rt; matches!(end, End::Refused(Refusal::Join(JoinErr::NoMain))));
+    let line = b"svr3: refused: undefined x\n";
+    says(&rt, alloc, b"extern int x; main() { return x; }", line)?;
+    let line = b"svr3: refused: arguments f\n";
+    says(&rt, alloc, b"f() { } main() { f(1); }", line)?;
+    let line = b"svr3: refused: arguments main\n";
+    says(&rt, alloc, b"main(a) { return 1; }", line)?;
+    let line = b"svr3: refused: twice main\n";
+    both_say(&rt, alloc, b"main() { }", b"main() { }", line)?;
+    let line = b"svr3: refused: clash g\n";
+    both_say(&rt, alloc, b"int g; main() { }", b"extern char g;", line)?;
+    Ok(())
+}
+
+#[test]
+fn recursive_structures_of_two_files_agree(rt: HostRuntime) -> Result<(), Fail> {
+    let alloc = rt.alloc();
+    let first = b"struct n { int v; struct n *next; }; struct n g; main() { }";
+    let same = b"struct n { int v; struct n *next; }; extern struct n g;";
+    both_say(&rt, alloc, first, same, b"svr3: refused: unbuilt\n")?;
+    let other = b"struct n { int w; struct n *next; }; extern struct n g;";
+    both_say(&rt, alloc, first, other, b"svr3: refused: clash g\n")?;
+    Ok(())
+}
+
+#[test]
+fn refusals_come_in_their_order(rt: HostRuntime) -> Result<(), Fail> {
+    let alloc = rt.alloc();
+    let bad = b"main( { }";
+    let wrong = b"f() { return x; }";
+    let line = b"svr3: refused: b.c:1: syntax\n";
+    both_say(&rt, alloc, wrong, bad, line)?;
+    let line = b"svr3: refused: a.c:1: syntax\n";
+    both_say(&rt, alloc, bad, bad, line)?;
+    let line = b"svr3: refused: a.c:1: rule 2\n";
+    both_say(&rt, alloc, wrong, wrong, line)?;
+    let line = b"svr3: refused: b.c:1: rule 2\n";
+    both_say(&rt, alloc, b"f() { }", wrong, line)?;
+    let line = b"svr3: refused: nomain\n";
+    both_say(&rt, alloc, b"f() { }", b"f() { }", line)?;
+    Ok(())
+}
+
+// `run` and so many names of files: aaaa.c, baaa.c and on.
+fn many_files(alloc: Global, count: usize) -> Result<Words, Fail> {
+    let mut words = words_of(alloc, &[b"run".as_slice()])?;
+    for n in 0..count {
+        let mut name = Vec::new(alloc);
+        name.push(b'a' + (n % 26) as u8)?;
+        name.push(b'a' + (n / 26 % 26) as u8)?;
+        name.push(b'a' + (n / 676 % 26) as u8)?;
+        name.extend_from_slice(b".c")?;
+        words.push(&name)?;
+    }
+    Ok(words)
+}
+
+#[test]
+fn ten_thousand_words_are_taken(rt: HostRuntime) -> Result<(), Fail> {
+    let alloc = rt.alloc();
+    let words = many_files(alloc, 9_999)?;
+    let call = Call {
+        words: &words,
+        files: &[(b"aaa.c".as_slice(), COUNTDOWN)],
+        read_fails: &[],
+        write_fails: &[],
+    };
+    end_of(&rt, alloc, &call, b"", b"svr3: absent: baa.c\n")?;
+    let words = many_files(alloc, 10_000)?;
+    let call = Call {
+        words: &words,
+        files: &[],
+        read_fails: &[],
+        write_fails: &[],
+    };
+    end_of(&rt, alloc, &call, b"", b"svr3: usage\n")?;
     Ok(())
 }
 
@@ -249,7 +398,7 @@ fn a_file_has_its_limit(rt: HostRuntime) -> Result<(), Fail> {
     let text = vec![in alloc; b' '; 262_145]?;
     let call = Call {
         words: &words,
-        text: &text,
+        files: &[(b"one.c".as_slice(), text.as_slice())],
         read_fails: &[],
         write_fails: &[],
     };
@@ -264,7 +413,7 @@ fn each_fault_has_its_line(rt: HostRuntime) -> Result<(), Fail> {
     let words = run_file(alloc)?;
     let read = Call {
         words: &words,
-        text: COUNTDOWN,
+        files: &[(b"one.c".as_slice(), COUNTDOWN)],
         read_fails: &[0],
         write_fails: &[],
     };
@@ -272,7 +421,7 @@ fn each_fault_has_its_line(rt: HostRuntime) -> Result<(), Fail> {
     assert_eq!(rt; status(&end), 6);
     let write = Call {
         words: &words,
-        text: COUNTDOWN,
+        files: &[(b"one.c".as_slice(), COUNTDOWN)],
         read_fails: &[],
         write_fails: &[0],
     };
@@ -286,7 +435,7 @@ fn is_usage(rt: &impl Abort, alloc: Global, list: &[&[u8]]) -> Result<(), Fail> 
     let words = words_of(alloc, list)?;
     let call = Call {
         words: &words,
-        text: COUNTDOWN,
+        files: &[(b"one.c".as_slice(), COUNTDOWN)],
         read_fails: &[],
         write_fails: &[],
     };
@@ -317,6 +466,17 @@ fn other_words_are_usage(rt: HostRuntime) -> Result<(), Fail> {
     with_number(&rt, alloc, b"+1")?;
     with_number(&rt, alloc, b"9223372036854775808")?;
     is_usage(&rt, alloc, &[b"run".as_slice()])?;
+    is_usage(&rt, alloc, &[b"run".as_slice(), b"-n".as_slice(), b"5".as_slice()])?;
+    is_usage(
+        &rt,
+        alloc,
+        &[
+            b"run".as_slice(),
+            b"one.c".as_slice(),
+            b"two.c".as_slice(),
+            b"one.c".as_slice(),
+        ],
+    )?;
     is_usage(&rt, alloc, &[b"run".as_slice(), b"one.h".as_slice()])?;
     is_usage(&rt, alloc, &[b"sdb".as_slice(), b"one.c".as_slice()])?;
     Ok(())
@@ -328,7 +488,7 @@ fn a_file_may_be_absent(rt: HostRuntime) -> Result<(), Fail> {
     let words = words_of(alloc, &[b"run".as_slice(), b"no.c".as_slice()])?;
     let call = Call {
         words: &words,
-        text: COUNTDOWN,
+        files: &[(b"one.c".as_slice(), COUNTDOWN)],
         read_fails: &[],
         write_fails: &[],
     };
