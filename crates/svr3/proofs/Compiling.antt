@@ -27,7 +27,7 @@ use Rattle.svr3.specs.Reading.{texts_of}
 use Rattle.svr3.specs.declared.front.Source.{Source}
 use Rattle.svr3.specs.declared.small_form.Fault.{Fault}
 use Rattle.svr3.specs.declared.small_form.Fault.TheVariants.{Unbuilt, Memory}
-use Rattle.svr3.proofs.MainFits.{main_taken, falls_short}
+use Rattle.svr3.proofs.MainFits.{main_taken}
 
 pub many_tokens : (ts : List Token) → are_few 0 ts ≡ false → (f : Func) → AreSmallTokens ts f → ⊥
 many_tokens ts many f s = let e : true ≡ false = sym s.few ∙ many in cc

@@ -151,3 +151,7 @@ so_fails o names i texts name ReadFault so there reads = tt
 so_fails o names i texts name WriteFault so there reads = absurd reads
 so_fails o names i texts name Budget so there reads = absurd reads
 so_fails o names i texts name Memory so there reads = tt
+
+-- an error that is handed on
+pub reads_handed : (o : Option Held) (names : List Name) (result : Result (Vec (Vec ℕ Global) Global) End) (e : End) → (y : End) × (result ≡ Err y) × (y ≡ e) → ReadsTexts o names (Err e) → ReadsTexts o names result
+reads_handed o names result e is reads = rw (is.1, is.2) reads

@@ -9,6 +9,7 @@ pub mod SmallTyped
 pub mod SmallUnit
 pub mod Shaped
 pub mod Tokened
+pub mod FewTokens
 pub mod UnitFits
 pub mod MainFits
 pub mod Wording

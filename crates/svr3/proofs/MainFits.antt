@@ -34,25 +34,7 @@ use Rattle.svr3.specs.SmallForm.{IsSmallText, small_main, only_main, main_in, bo
 use Rattle.svr3.proofs.Shaped.{none_some, mapped, picked, all_settled, plain_decls, numbered_append}
 use Rattle.svr3.proofs.Tokened.{both, few_on, stmts_fit}
 use Rattle.svr3.proofs.UnitFits.{main_passes, locals_pass, names_count, unit_count}
-
--- ---- a text has at least as many bytes as tokens
-
-piece_tokens : (l : ℕ) (o : Option Tok) (ts : List Token) → length (with_token l o ts) ≤ suc (length ts)
-piece_tokens l None ts = omega arith
-piece_tokens l (Some x) ts = omega arith
-
-tokens_short : (l : ℕ) (ps : List Piece) → ArePieces ps [] → length (tokens_from l ps) ≤ length (spelled ps [])
-tokens_short l [] are = omega arith
-tokens_short l (p ∷ ps) are =
-    let rest = tokens_short (l + newlines (piece_bytes p)) ps are.1 in
-    let one = piece_tokens l (token_of p) (tokens_from (l + newlines (piece_bytes p)) ps) in
-    let more = shorter (piece_bytes p ++ spelled ps []) (spelled ps []) (token_of p) (record { piece = p; is = are.0; bytes_are = refl; token_is = refl }) in
-    omega arith
-
-pub falls_short : (text : List ℕ) (ts : List Token) → Falls text ts → length ts ≤ length text
-falls_short text ts f =
-    let short = tokens_short 1 f.pieces f.are in
-    omega (arith, short, ap length f.bytes_are, ap length f.tokens_are)
+use Rattle.svr3.proofs.FewTokens.{falls_short}
 
 -- a unit has at most as many names and starts as tokens
 pub reads_short : (ts : List Token) (u : tu.Unit) → ReadsTokens ts u → unit_size u ≤ length ts
