@@ -2,6 +2,7 @@
 use Rattle.std.proofs.Common.{◌≡◌, ◌⊎◌, ℕ, zero, suc, ◌+◌, ◌<◌, ◌≤◌, List, [], ◌∷◌, ◌++◌, length, length-take, take, drop, inl, inr, refl, sym, ap, ◌∙◌, arith}
 use Rattle.std.specs.Prelude.{Option, Some, None, Bool, true, false, nat_lt, Vec, Result, Ok, Err, All, Contains, slice_get}
 use Rattle.std.specs.declared.alloc.Global.{Global}
+use Rattle.std.proofs.lemmas.Bool.Decides.{nat_tests}
 use Rattle.std.proofs.lemmas.List.{take_all}
 use Rattle.std.proofs.lemmas.List.Elements.{All-map}
 use Rattle.c_type.specs.Names.{Name, pick}
@@ -23,10 +24,10 @@ front_long : (n : ℕ) (text front : List ℕ) → front ≡ take (n + 1) text �
 front_long n text front is long = let len = ap length is ∙ length-take (n + 1) text in omega arith
 
 less_is : (n m : ℕ) → n < m → nat_lt n m ≡ true
-less_is n m below = omega arith
+less_is n m below = grind (arith, nat_tests)
 
 not_less : (n m : ℕ) → m ≤ n → nat_lt n m ≡ false
-not_less n m above = omega arith
+not_less n m above = grind (arith, nat_tests)
 
 pub text_read : (o : Option Held) (name : Name) (v : Vec ℕ Global) → ReadsFile o name 262145 (Ok v) → length v.items ≤ 262144 → ReadsText o name (Ok v)
 text_read None name v reads short = (tt, short)

@@ -1,5 +1,5 @@
 -- The front end, text by text and unit by unit.
-use Rattle.std.proofs.Common.{◌≡◌, ℕ, zero, suc, ◌+◌, ◌<◌, ◌≤◌, List, [], ◌∷◌, ◌++◌, length, take, map, Vec, Global, refl, sym, ap, ◌∙◌, arith, get_or}
+use Rattle.std.proofs.Common.{◌≡◌, ℕ, zero, suc, ◌+◌, ◌<◌, ◌≤◌, List, [], ◌∷◌, ◌++◌, length, take, map, Vec, Global, refl, sym, ap, ◌∙◌, arith, subst}
 use Rattle.std.specs.Prelude.{Option, Some, None, true, Result, Err, IfErr, IfSome, slice_get}
 use Rattle.std.specs.List.{AllZip}
 use Rattle.std.proofs.lemmas.List.{take_more, map-append, length-map}
@@ -18,16 +18,16 @@ use Rattle.c_tree.specs.declared.Unit as parsed
 use Rattle.c_tree.specs.TreeUnit as tu
 use Rattle.c_tree.specs.TreeOf.{unit_of}
 use Rattle.c_tree.specs.Reads.{Reads, ReadsTokens, AreShallow}
-use Rattle.c_tree.specs.TUnit.{TypedUnit}
+use Rattle.c_tree.specs.TUnit.{TypedUnit, Program}
 use Rattle.c_tree.specs.TypedOf as typed
 use Rattle.c_tree.specs.declared.TypedUnit as typing
 use Rattle.c_tree.specs.RuleUnit.{IsTyped}
 use Rattle.c_tree.specs.RuleFailsUnit.{UnitFails}
-use Rattle.c_tree.specs.JoinChecks.{IsRefused}
+use Rattle.c_tree.specs.JoinChecks.{IsJoined, IsRefused}
 use Rattle.c_whole.specs.Refusals.{told_as}
 use Rattle.c_whole.specs.declared.JoinErr.{JoinErr}
 use Rattle.c_whole.specs.declared.JoinErr.TheVariants as whole
-use Rattle.svr3.specs.Front.{IsFirst, IsUnread, IsSyntax, IsRule, IsJoin, IsRight, IsSource, units_of, IsRightErr, IsTextErr, IsUnitErr, IsUnitsErr, lex_err, parse_err, join_refused}
+use Rattle.svr3.specs.Front.{IsUnread, IsAccepted, IsSource, units_of, IsRightErr, IsTextErr, IsUnitErr, IsUnitsErr, lex_err, parse_err, join_refused}
 use Rattle.svr3.specs.Reading.{texts_of}
 use Rattle.svr3.specs.declared.answer.Refusal.{Refusal}
 use Rattle.svr3.specs.declared.answer.Refusal.TheVariants as r
@@ -148,6 +148,15 @@ module _ (texts : List (List ℕ)) (ss : List Source) (ts : List TypedUnit) (rea
   join_fails (whole.Clash x) bad = record { units = units_of ss; read = sources_read texts ss read; typed_units = ts; typed = all; refused = bad }
   join_fails (whole.Arguments x) bad = record { units = units_of ss; read = sources_read texts ss read; typed_units = ts; typed = all; refused = bad }
   join_fails whole.Memory bad = tt
+
+-- what is joined is accepted
+pub accepted_by : (texts : List (List ℕ)) (ss : List Source) (ts : List TypedUnit) (p : Program) → AllZip IsSource texts ss → AllZip IsTyped (units_of ss) ts → IsJoined true ts p → IsAccepted texts p
+accepted_by texts ss ts p read all joined = record {
+  units = units_of ss;
+  read = sources_read texts ss read;
+  typed = subst (λ us. AllZip IsTyped (units_of ss) us) (sym joined.units) all;
+  joined = subst (λ us. IsJoined true us p) (sym joined.units) joined;
+}
 
 -- an error that is handed on
 pub handed : (texts : List (List ℕ)) {T : Type 0} (result : Result T FrontErr) (e : FrontErr) → (y : FrontErr) × (result ≡ Err y) × (y ≡ e) → IsRightErr texts e → IfErr result (IsRightErr texts)

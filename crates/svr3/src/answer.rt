@@ -4,6 +4,7 @@ ghost use Rattle.svr3.specs.Answer.{status_of};
 
 use c_whole::JoinErr;
 use num_le::Name;
+use std::alloc::AllocFailed;
 
 /// Why a program is refused. Files are counted from 0.
 #[derive(Debug, Drop)]
@@ -45,6 +46,17 @@ pub enum End {
     Budget,
     /// Memory was wanting.
     Memory,
+}
+
+impl<T: Drop> From<AllocFailed<T>> for End {
+    ghost use Rattle.std.specs.Prelude.{◌≡◌};
+    ghost use Rattle.svr3.specs.declared.answer.End.{End};
+
+    ghost from_gives = { λ _ e. e ≡ End.Memory };
+
+    fn from(_: AllocFailed<T>) -> End {
+        End::Memory
+    }
 }
 
 /// The exit status that tells of this end.

@@ -64,7 +64,10 @@ fn main_of(alloc: Global, texts: &[Vec<u8>], sources: &[Source]) -> Result<TFunc
     requires read { AllZip IsSource (texts_of texts.now) sources.now }
     ensures { Types (texts_of texts.now) result }
 {
-    if sources.len() != 1 || texts.len() != 1 || texts[0].len() > MOST {
+    if texts.len() != 1 {
+        return Err(Fault::Unbuilt);
+    }
+    if texts[0].len() > MOST {
         return Err(Fault::Unbuilt);
     }
     main_in(alloc, &sources[0])

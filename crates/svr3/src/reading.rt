@@ -63,9 +63,7 @@ pub fn texts<F: Files>(alloc: Global, names: &[Name], files: &mut F) -> Result<V
 {
     let mut texts = Vec::new(alloc);
     for name in names {
-        if texts.push(text(alloc, name, files)?).is_err() {
-            return Err(End::Memory);
-        }
+        texts.push(text(alloc, name, files)?)?;
     }
     Ok(texts)
 }

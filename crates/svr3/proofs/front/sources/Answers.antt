@@ -1,5 +1,4 @@
 use Rattle.std.proofs.Common.{◌≡◌, ◌≤◌, ◌<◌, ◌∙◌, arith, sym, ap, refl, length, map, take}
-use Rattle.std.proofs.lemmas.List.{length-map, take_all}
 use Rattle.std.proofs.lemmas.Option.{slice_get_read}
 use Rattle.std.proofs.lemmas.Result.{err_from_is_err_and}
 use Rattle.std.specs.List.{AllZip}
@@ -7,14 +6,6 @@ use Rattle.svr3.specs.Front.{IsSource}
 use Rattle.svr3.specs.Reading.{texts_of}
 use Rattle.svr3.proofs.Fronting.{source_more, source_fails, handed}
 use Rattle.svr3.proofs.front.sources.Goals as goal
-
-pub read_text-requires : goal.read_text-requires
-read_text-requires c =
-    let item = c.text-item.result in
-    let short = c.requires.short c.loop-text.text-index item c.loop-text-test.true in
-    let same = ap (λ t. length t.items) c.text-item.is in
-    let bytes = ap length c.deref.ensures.value in
-    omega (arith, short, same, bytes)
 
 pub returns-in_err-read_text-clause-none : goal.returns-in_err-read_text-clause-none
 returns-in_err-read_text-clause-none c =
@@ -33,9 +24,3 @@ loop-text-preserved c =
       read = rw (c.in_ok-push.ensures.items) (source_more texts c.loop-text.list.items c.loop-text.text-index item c.in_ok-read_text.field-0 c.loop-text.invariant.read there (rw (c.deref.ensures.value) at c.in_ok-read_text.ensures.read));
       number = (let n = c.loop-text.invariant.number in omega arith);
     }
-
-pub returns-clause-read : goal.returns-clause-read
-returns-clause-read c =
-    let texts = c.args.texts.now in
-    let long = length-map texts (λ t. t.items) in
-    rw (take_all c.loop-text.text-index (texts_of texts) (omega (arith, long, c.loop-text-test.false))) at c.loop-text.invariant.read

@@ -1,5 +1,4 @@
 use Rattle.std.proofs.Common.{◌≡◌, ◌≤◌, ◌<◌, ◌∙◌, arith, sym, ap, refl, length, map, take}
-use Rattle.std.proofs.lemmas.List.{length-map, take_all}
 use Rattle.std.proofs.lemmas.Option.{slice_get_read}
 use Rattle.std.proofs.lemmas.Result.{err_from_is_err_and}
 use Rattle.std.specs.List.{AllZip}
@@ -26,9 +25,3 @@ loop-source-preserved c =
       typed = rw (c.in_ok-push.ensures.items) (unit_more sources c.loop-source.list.items c.loop-source.source-index item c.in_ok-typed_unit.field-0 c.loop-source.invariant.typed there c.in_ok-typed_unit.ensures.typed);
       number = (let n = c.loop-source.invariant.number in omega arith);
     }
-
-pub returns-clause-typed : goal.returns-clause-typed
-returns-clause-typed c =
-    let sources = c.args.sources.now in
-    let long = length-map sources (λ s. unit_of s.unit) in
-    rw (take_all c.loop-source.source-index (units_of sources) (omega (arith, long, c.loop-source-test.false))) at c.loop-source.invariant.typed
