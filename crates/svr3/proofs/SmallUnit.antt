@@ -188,8 +188,7 @@ locals_typed c es i (x ∷ xs) bare new differ =
     more_locals : (c : Env) (es : List Entry) (i : ℕ) (x : d.Item) (l : ℕ) (y : Name) (xs : List d.Item) (ls : List st.Local) (e : Env) → x.declr ≡ d.name l y → x.init ≡ None → in_scope y es ≡ None
         → AreLocals (inside c (entry y i ∷ es) (suc i)) None (num Int) xs ls e → AreLocals (inside c es i) None (num Int) (x ∷ xs) (object x.declr i ∷ ls) e
     more_locals c es i x l y xs ls e er ev free all =
-        rw (er, ev)
-        (
+        rw (er, ev) (
           record { name = y; ty = num Int; dims = [] },
           st.auto (record { name = y; ty = num Int; dims = [] }) i,
           ls,
@@ -197,7 +196,7 @@ locals_typed c es i (x ∷ xs) bare new differ =
           ((refl, refl, refl), refl),
           (inside c (entry y i ∷ es) i, refl, (rw free refl, refl), refl, refl),
           all,
-          refl
+          refl,
         )
 
 decls_typed : (c : Env) (es : List Entry) (i : ℕ) (ds : List d.LocalDecl) → list_all is_plain ds ≡ true → AreNew (names_in ds) es → are_different (names_in ds) ≡ true
@@ -218,8 +217,7 @@ decls_typed c es i (x ∷ ds) all new differ =
     let count : i + length x.items + length (names_in ds) ≡ i + length (names_in (x ∷ ds)) =
     let sum = length-append mine (names_in ds) in omega (arith, sum, many) in
     let last : inside c (entries (i + length x.items) (names_in ds) (entries i mine es)) (i + length x.items + length (names_in ds)) ≡ inside c (entries i (names_in (x ∷ ds)) es) (i + length (names_in (x ∷ ds))) =
-    ap (λ z. inside c z (i + length x.items + length (names_in ds))) same ∙ ap (inside c (entries i (names_in (x ∷ ds)) es)) count in
-    (
+    ap (λ z. inside c z (i + length x.items + length (names_in ds))) same ∙ ap (inside c (entries i (names_in (x ∷ ds)) es)) count in (
       num Int,
       locals_in i x.items,
       decls_in (i + length x.items) ds,
@@ -227,7 +225,7 @@ decls_typed c es i (x ∷ ds) all new differ =
       rw (said.1) refl,
       rw (said.0) first,
       subst (λ e. AreDecls (inside c (entries i mine es) (i + length x.items)) ds (decls_in (i + length x.items) ds) e) last rest,
-      refl
+      refl,
     )
   where
     stands_front : (xs ys : List Name) (x : Name) → stands_in (xs ++ ys) x ≡ false → stands_in xs x ≡ false

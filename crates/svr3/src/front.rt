@@ -113,7 +113,11 @@ fn typed_unit(alloc: Global, file: u32, unit: &Unit) -> Result<TypedUnit, FrontE
 {
     match check(alloc, unit) {
         Ok(typed) => Ok(typed),
-        Err(TypeErr::Rule(rule, line)) => Err(FrontErr::Refused(Refusal::Rule { file, line, rule })),
+        Err(TypeErr::Rule(rule, line)) => Err(FrontErr::Refused(Refusal::Rule {
+            file,
+            line,
+            rule,
+        })),
         Err(TypeErr::Memory) => Err(FrontErr::Memory),
     }
 }

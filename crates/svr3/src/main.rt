@@ -5,6 +5,7 @@ mod answer;
 mod front;
 mod lines;
 mod machine;
+mod name_set;
 mod output;
 mod process;
 mod program;
@@ -12,7 +13,6 @@ mod reading;
 mod real;
 mod small_form;
 mod top;
-mod name_set;
 mod words;
 
 use answer::{End, status};

@@ -210,7 +210,12 @@ fn check_line(line: u32) -> Result<(), Fault>
 }
 
 #[cycle(stmts)]
-fn stmts(alloc: Global, variables: &NameSet, next: &mut u32, list: &[Stmt]) -> Result<Vec<TStmt>, Fault>
+fn stmts(
+    alloc: Global,
+    variables: &NameSet,
+    next: &mut u32,
+    list: &[Stmt],
+) -> Result<Vec<TStmt>, Fault>
     requires few { length (names_of variables.now) ≤ 131072 }
     requires counted { next.old + s.stmts_starts (u.stmts_from list.now) ≤ 131072 }
     ensures typed { Gives (λ v. t.stmts_from v.items) result (s.stmts_in (names_of variables.now) next.old (u.stmts_from list.now)) }
@@ -410,10 +415,7 @@ fn is_plain_body(names: &[Name], block: &Block) -> bool
     requires names { names.now ≡ s.names_in (u.block_of block.now).decls }
     ensures value { (result && are_different names.now) ≡ s.is_body (u.block_of block.now) }
 {
-    is_line(block.line)
-        && is_line(block.close_line)
-        && are_plain(&block.decls)
-        && are_free(names)
+    is_line(block.line) && is_line(block.close_line) && are_plain(&block.decls) && are_free(names)
 }
 
 fn body(alloc: Global, block: &Block) -> Result<TFunc, Fault>

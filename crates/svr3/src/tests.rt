@@ -127,7 +127,10 @@ fn a_loop_without_end_spends_its_budget(rt: HostRuntime) -> Result<(), Fail> {
     let words = words_of(alloc, &list)?;
     let call = Call {
         words: &words,
-        files: &[(b"one.c".as_slice(), b"main() { int x; while (1) x = x; }".as_slice())],
+        files: &[(
+            b"one.c".as_slice(),
+            b"main() { int x; while (1) x = x; }".as_slice(),
+        )],
         read_fails: &[],
         write_fails: &[],
     };
@@ -144,7 +147,10 @@ fn a_million_bytes_are_written(rt: HostRuntime) -> Result<(), Fail> {
     let output = vec![in alloc; b'.'; 1_000_000]?;
     let call = Call {
         words: &words,
-        files: &[(b"one.c".as_slice(), b"main() { int n; n = 1000000; while (n) { putchar(46); n = n - 1; } return 9; }".as_slice())],
+        files: &[(
+            b"one.c".as_slice(),
+            b"main() { int n; n = 1000000; while (n) { putchar(46); n = n - 1; } return 9; }".as_slice(),
+        )],
         read_fails: &[],
         write_fails: &[],
     };
@@ -466,7 +472,11 @@ fn other_words_are_usage(rt: HostRuntime) -> Result<(), Fail> {
     with_number(&rt, alloc, b"+1")?;
     with_number(&rt, alloc, b"9223372036854775808")?;
     is_usage(&rt, alloc, &[b"run".as_slice()])?;
-    is_usage(&rt, alloc, &[b"run".as_slice(), b"-n".as_slice(), b"5".as_slice()])?;
+    is_usage(
+        &rt,
+        alloc,
+        &[b"run".as_slice(), b"-n".as_slice(), b"5".as_slice()],
+    )?;
     is_usage(
         &rt,
         alloc,
