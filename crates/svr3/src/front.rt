@@ -106,6 +106,12 @@ fn sources(alloc: Global, texts: &[Vec<u8>]) -> Result<Vec<Source>, FrontErr>
     Ok(list)
 }
 
+fn fails(file: u32, line: u32, rule: u8) -> FrontErr
+    ensures { result ≡ FrontErr.Refused (Refusal.Rule file line rule) }
+{
+    FrontErr::Refused(Refusal::Rule { file, line, rule })
+}
+
 // The typed unit of a unit.
 fn typed_unit(alloc: Global, file: u32, unit: &Unit) -> Result<TypedUnit, FrontErr>
     ensures typed { IfOk result (λ t. IsTyped (tree.unit_of unit.now) (typed.unit_of t)) }
@@ -113,11 +119,7 @@ fn typed_unit(alloc: Global, file: u32, unit: &Unit) -> Result<TypedUnit, FrontE
 {
     match check(alloc, unit) {
         Ok(typed) => Ok(typed),
-        Err(TypeErr::Rule(rule, line)) => Err(FrontErr::Refused(Refusal::Rule {
-            file,
-            line,
-            rule,
-        })),
+        Err(TypeErr::Rule(rule, line)) => Err(fails(file, line, rule)),
         Err(TypeErr::Memory) => Err(FrontErr::Memory),
     }
 }
