@@ -1,5 +1,5 @@
 // What a reader takes from the front.
-ghost use Rattle.std.specs.Prelude.{◌≡◌, ◌≤◌, ◌<◌, length, IfSome, IfOk};
+ghost use Rattle.std.specs.Prelude.{◌≡◌, ◌≤◌, ◌<◌, ◌^◌, length, IfSome, IfOk};
 ghost use Rattle.std.specs.Option.{option_map};
 ghost use Rattle.c_tree.specs.TreeOf.{expr_of};
 ghost use Rattle.c_expr.specs.Front as f;
@@ -27,7 +27,7 @@ impl Reader<'_> {
     #[tactic(auto, unfolding(crate::specs::Answers::rest))]
     pub fn left(&self, at: usize) -> usize
         ensures count { result ≡ length (rest self.now at) }
-        ensures few { result < 4294967295 }
+        ensures few { result < 2 ^ 63 }
     {
         self.tokens.list.len().saturating_sub(at)
     }

@@ -1,5 +1,5 @@
 // What stands at a place of the tokens.
-ghost use Rattle.std.specs.Prelude.{◌≡◌, ◌<◌, ◌++◌, ℕ, length, map, IfOk};
+ghost use Rattle.std.specs.Prelude.{◌≡◌, ◌++◌, ℕ, map, IfOk};
 ghost use Rattle.c_tree.specs.TreeDecl as tree;
 ghost use Rattle.c_tree.specs.TreeUnit as u;
 ghost use Rattle.c_tree.specs.TreeOf.{declr_of, local_of};
@@ -20,7 +20,6 @@ use num_le::Name;
 use std::alloc::{AllocError, Global};
 
 fn outside(alloc: Global, t: &Tokens, at: usize, defs: &Typedefs) -> Result<(Head, usize), ParseErr>
-    requires counted { length (tokens_of t.now) < 4294967295 }
     ensures spelled { IfOk result (λ x. IsFoundAt (names_of defs.now) (tokens_of t.now) at x.0 x.1) }
     ensures no_declaration { OnNotC result ((e : u.Ext) (k : ℕ) → IsDeclarationAt (names_of defs.now) (tokens_of t.now) at e k → ⊥) }
     ensures no_head { OnNotC result ((h : u.FuncHead) (k : ℕ) → IsHeadAt (names_of defs.now) (tokens_of t.now) at h k → ⊥) }
@@ -56,17 +55,15 @@ fn add_names(alloc: Global, head: &Head, defs: &mut Typedefs) -> Result<(), Allo
 
 /// One declaration outside of blocks, up to and with its semicolon, or the head of a function up to its block.
 ///
-/// The answer has the place of the token behind it. Tokens are counted from 0, and there are fewer than 4294967295. The
-/// names of a typedef are added to the typedef names. NotC, with the line where reading ended, comes exactly where
-/// neither of them stands there with a depth of at most 200. After an error the typedef names may hold some of the new
-/// ones.
+/// The answer has the place of the token behind it. Tokens are counted from 0. The names of a typedef are added to the
+/// typedef names. NotC, with the line where reading ended, comes exactly where neither of them stands there with a depth
+/// of at most 200. After an error the typedef names may hold some of the new ones.
 pub fn external(
     alloc: Global,
     t: &Tokens,
     at: usize,
     defs: &mut Typedefs,
 ) -> Result<(Head, usize), ParseErr>
-    requires counted { length (tokens_of t.now) < 4294967295 }
     ensures spelled { IfOk result (λ x. IsFoundAt (names_of defs.old) (tokens_of t.now) at x.0 x.1) }
     ensures names { IfOk result (λ x. names_of defs.new ≡ names_behind (names_of defs.old) x.0) }
     ensures no_declaration { OnNotC result ((e : u.Ext) (k : ℕ) → IsDeclarationAt (names_of defs.old) (tokens_of t.now) at e k → ⊥) }
@@ -80,15 +77,14 @@ pub fn external(
 
 /// One declaration in a block, up to and with its semicolon, and the place of the token behind it.
 ///
-/// Tokens are counted from 0, and there are fewer than 4294967295. NotC, with the line where reading ended, comes exactly
-/// where none stands there with a depth of at most 200.
+/// Tokens are counted from 0. NotC, with the line where reading ended, comes exactly where none stands there with a depth
+/// of at most 200.
 pub fn local(
     alloc: Global,
     t: &Tokens,
     at: usize,
     defs: &Typedefs,
 ) -> Result<(LocalDecl, usize), ParseErr>
-    requires counted { length (tokens_of t.now) < 4294967295 }
     ensures spelled { IfOk result (λ x. IsLocalAt (names_of defs.now) (tokens_of t.now) at (local_of x.0) x.1) }
     ensures none { OnNotC result ((d : tree.LocalDecl) (k : ℕ) → IsLocalAt (names_of defs.now) (tokens_of t.now) at d k → ⊥) }
     ensures shallow { IsNotTooDeep result }

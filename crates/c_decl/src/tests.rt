@@ -21,9 +21,6 @@ fn tokens(alloc: Global, text: &[u8]) -> Result<Tokens, ParseErr> {
 /// What stands outside of blocks, where the text is a declaration, or a function up to its `{`.
 fn read(alloc: Global, text: &[u8], defs: &mut Typedefs) -> Result<Head, ParseErr> {
     let tokens = tokens(alloc, text)?;
-    if tokens.list.len() >= 4294967295 {
-        return Err(ParseErr::Memory);
-    }
     let (head, after) = external(alloc, &tokens, 0, defs)?;
     let expected = match &head {
         Head::Whole(_) => tokens.list.len(),
@@ -38,9 +35,6 @@ fn read(alloc: Global, text: &[u8], defs: &mut Typedefs) -> Result<Head, ParseEr
 /// The declaration in a block that a whole text is.
 fn read_local(alloc: Global, text: &[u8], defs: &Typedefs) -> Result<LocalDecl, ParseErr> {
     let tokens = tokens(alloc, text)?;
-    if tokens.list.len() >= 4294967295 {
-        return Err(ParseErr::Memory);
-    }
     let (decl, after) = local(alloc, &tokens, 0, defs)?;
     if after != tokens.list.len() {
         return Err(ParseErr::TooDeep(0));

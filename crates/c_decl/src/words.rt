@@ -1,5 +1,5 @@
 // The words before declarators.
-ghost use Rattle.std.specs.Prelude.{◌≡◌, ◌+◌, ◌<◌, ◌≤◌, [], ◌++◌, ◌∷◌, length, map, IfOk, IfErr};
+ghost use Rattle.std.specs.Prelude.{◌≡◌, ◌+◌, ◌<◌, ◌≤◌, ◌^◌, [], ◌++◌, ◌∷◌, length, map, IfOk, IfErr};
 ghost use Rattle.c_tree.specs.TreeOf.{def_of};
 ghost use Rattle.c_tree.specs.Reads.{most};
 ghost use Rattle.c_expr.specs.Front as f;
@@ -100,7 +100,7 @@ impl Words {
 
     /// One word more.
     pub fn add(&mut self, word: Word) -> Result<(), ParseErr>
-        requires few { self.old.typedefs < 4294967295 }
+        requires few { self.old.typedefs < 2 ^ 63 }
         ensures added { IfOk result (λ _. found_of self.new ≡ s.and_word (found_of self.old) (word_of word)) }
         ensures few { self.new.typedefs ≤ self.old.typedefs + 1 }
         ensures memory { IfErr result (λ e. e ≡ ParseErr.Memory) }

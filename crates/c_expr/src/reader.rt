@@ -1,5 +1,5 @@
 // Expressions from a place of the tokens on.
-ghost use Rattle.std.specs.Prelude.{◌≡◌, ◌≤◌, ◌<◌, ℕ, List, length, map, IfOk};
+ghost use Rattle.std.specs.Prelude.{◌≡◌, ◌≤◌, ℕ, List, map, IfOk};
 ghost use Rattle.c_type.specs.Tokens as k;
 ghost use Rattle.c_tree.specs.TreeExpr as tree;
 ghost use Rattle.c_tree.specs.TreeOf.{expr_of};
@@ -80,7 +80,6 @@ fn expr_in(
     level: u8,
     defs: &Typedefs,
 ) -> Result<(Expr, usize), ParseErr>
-    requires counted { length tokens.now < 4294967295 }
     requires high { level ≤ 3 }
     ensures spelled { IfOk result (λ x. reads.IsExprAt (names_of defs.now) level (map token_of tokens.now) at (expr_of x.0) x.1) }
     ensures none { OnNotC result ((e : tree.Expr) (k : ℕ) → reads.IsExprAt (names_of defs.now) level (map token_of tokens.now) at e k → ⊥) }
@@ -102,8 +101,7 @@ fn expr_in(
 ///
 /// Levels are 1 for an expression with commas, 2 for one without, and 3 for one without assignment.
 /// The token behind it is `)`, `]`, `;` or `:`, or for levels 2 and 3 also `,` or `}`. Tokens are
-/// counted from 0, and there are fewer than 4294967295. NotC comes exactly where no expression of a
-/// depth of at most 200 stands there. Its line is that of the token at which reading ended.
+/// counted from 0. NotC comes exactly where no expression of a depth of at most 200 stands there. Its line is that of the token at which reading ended.
 ///
 /// The stack that reading takes grows with the brackets that are open at once, and not with the
 /// number of tokens.
@@ -114,7 +112,6 @@ pub fn expr(
     level: u8,
     defs: &Typedefs,
 ) -> Result<(Expr, usize), ParseErr>
-    requires counted { length (tokens_of t.now) < 4294967295 }
     requires low { 1 ≤ level }
     requires high { level ≤ 3 }
     ensures spelled { IfOk result (λ x. reads.IsExprAt (names_of defs.now) level (tokens_of t.now) at (expr_of x.0) x.1) }

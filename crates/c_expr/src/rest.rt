@@ -1,5 +1,5 @@
 // The tokens that are left to read, and what has been read before them.
-ghost use Rattle.std.specs.Prelude.{◌≡◌, ◌<◌, ◌≤◌, length};
+ghost use Rattle.std.specs.Prelude.{◌≡◌, ◌≤◌};
 ghost use Rattle.c_tree.specs.TreeExpr as t;
 ghost use Rattle.c_tree.specs.TreeOf.{expr_of, exprs_from};
 
@@ -12,7 +12,6 @@ pub struct Rest<'a> {
     pub tokens: &'a [Token],
     /// The line of the last of all tokens.
     pub end: u32,
-    ghost counted: { length tokens.now < 4294967295 },
 }
 
 /// An expression, its depth, and the tokens behind it.

@@ -14,7 +14,7 @@ fn read_at(
     level: u8,
     defs: &Typedefs,
 ) -> Result<(Expr, usize), ParseErr> {
-    if level < 1 || level > 3 || tokens.list.len() > 1_000_000 {
+    if level < 1 || level > 3 {
         return Err(ParseErr::Memory);
     }
     expr(alloc, tokens, at, level, defs)

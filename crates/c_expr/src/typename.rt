@@ -55,7 +55,7 @@ fn tag_kind(word: u8) -> Option<TagKind>
 }
 
 /// The stars at the front, and the tokens behind them.
-fn stars<'a>(rest: Rest<'a>) -> (u32, Rest<'a>)
+fn stars<'a>(rest: Rest<'a>) -> (usize, Rest<'a>)
     ensures { s.stars_at (left rest.entry) ≡ Some (result.0, left result.1) }
 {
     let mut count = 0;

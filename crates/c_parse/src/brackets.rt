@@ -1,5 +1,5 @@
 // The brackets that are open at a token.
-ghost use Rattle.std.specs.Prelude.{◌≡◌, ◌<◌};
+ghost use Rattle.std.specs.Prelude.{◌≡◌, ◌+◌, ◌<◌, ◌^◌};
 ghost use Rattle.c_lex.specs.Shown.{tok_of, token_of};
 ghost use Rattle.c_tree.specs.Reads as r;
 
@@ -24,8 +24,8 @@ fn is_closing(kind: &Tok) -> bool
 }
 
 /// How many of `(`, `[` and `{` are open at the token, where so many were open before it.
-pub fn opened(before: u32, token: &Token) -> u32
-    requires counted { before < 4294967295 }
+pub fn opened(before: usize, token: &Token) -> usize
+    requires fits { before + 1 < 2 ^ 64 }
     ensures open { result ≡ r.opened before (token_of token.now) }
 {
     if is_opening(&token.kind) {

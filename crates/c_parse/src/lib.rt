@@ -15,7 +15,6 @@ mod units;
 
 ghost use Rattle.c_parse.specs.Laws.{IsOneReading, IsOneUnit, IsRead, IsSpelled};
 
-pub use brackets::opened;
 pub use units::parse;
 
 /// At most one unit reads a text.

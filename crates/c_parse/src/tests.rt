@@ -14,9 +14,6 @@ fn read(alloc: Global, text: &[u8]) -> Result<Unit, ParseErr> {
     let Ok(tokens) = lex(alloc, text) else {
         return Err(ParseErr::Memory);
     };
-    if tokens.list.len() > 1_000_000 {
-        return Err(ParseErr::Memory);
-    }
     parse(alloc, &tokens)
 }
 

@@ -1,5 +1,5 @@
 // Units.
-ghost use Rattle.std.specs.Prelude.{◌≡◌, ◌+◌, ◌<◌, ℕ, [], length, map, drop, Some, IfOk};
+ghost use Rattle.std.specs.Prelude.{◌≡◌, ◌+◌, ℕ, [], length, map, drop, Some, IfOk};
 ghost use Rattle.c_tree.specs.TreeUnit as tree;
 ghost use Rattle.c_tree.specs.TreeOf.{ext_of, unit_of};
 ghost use Rattle.c_tree.specs.WrittenUnit.{with_typedefs};
@@ -32,7 +32,7 @@ fn deep_line(t: &Tokens) -> Option<u32>
     let mut open = 0;
     for token in &t.list {
         open = opened(open, token);
-        if open > MAX_DEPTH {
+        if open > MAX_DEPTH as usize {
             return Some(token.line);
         }
     }
@@ -70,7 +70,6 @@ fn outside(
     at: usize,
     defs: &mut Typedefs,
 ) -> Result<(Head, usize), ParseErr>
-    requires counted { length (tokens_of t.now) < 4294967295 }
     ensures read { Gives (λ x. (outside_of x.0, drop x.1 (tokens_of t.now))) result (u.outside (names_of defs.old) (drop at (tokens_of t.now))) }
     ensures names { IfOk result (λ x. names_of defs.new ≡ names_behind (names_of defs.old) x.0) }
 {
@@ -84,7 +83,6 @@ fn external_declaration(
     at: usize,
     defs: &mut Typedefs,
 ) -> Result<(Ext, usize), ParseErr>
-    requires counted { length (tokens_of t.now) < 4294967295 }
     ensures read { Gives (λ x. (ext_of x.0, drop x.1 (tokens_of t.now))) result (u.ext (names_of defs.old) (drop at (tokens_of t.now))) }
     ensures names { IfOk result (λ x. names_of defs.new ≡ with_typedefs (names_of defs.old) (ext_of x.0)) }
 {
@@ -104,7 +102,6 @@ fn external_declaration(
 
 /// The external declarations of the text.
 fn external_declarations(alloc: Global, t: &Tokens) -> Result<Vec<Ext>, ParseErr>
-    requires counted { length (tokens_of t.now) < 4294967295 }
     ensures read { Gives (λ v. map ext_of v.items) result (u.exts (length (tokens_of t.now) + 1) [] (tokens_of t.now)) }
 {
     let mut defs = Typedefs::new(alloc);
@@ -124,7 +121,6 @@ fn external_declarations(alloc: Global, t: &Tokens) -> Result<Vec<Ext>, ParseErr
 
 /// A unit, where the brackets that are open are few enough.
 fn unit(alloc: Global, t: &Tokens) -> Result<Unit, ParseErr>
-    requires counted { length (tokens_of t.now) < 4294967295 }
     ensures read { Gives unit_of result (q.unit most expression (tokens_of t.now)) }
 {
     let unit = Unit {
@@ -136,13 +132,12 @@ fn unit(alloc: Global, t: &Tokens) -> Result<Unit, ParseErr>
     Ok(unit)
 }
 
-/// The unit that the tokens spell. There are fewer than 4294967295 of them.
+/// The unit that the tokens spell.
 ///
 /// TooDeep carries the line of the first token at which more than 200 of `(`, `[` and `{` are open, and comes
 /// exactly where there is one. NotC comes where there is none and the tokens spell no unit of a depth of at most
 /// 200. It carries the line of the token at which reading ended.
 pub fn parse(alloc: Global, t: &Tokens) -> Result<Unit, ParseErr>
-    requires counted { length (tokens_of t.now) < 4294967295 }
     ensures reads { IfOk result (λ u. ReadsTokens (tokens_of t.now) (unit_of u)) }
     ensures none { OnNotC result ((u : tree.Unit) → ReadsTokens (tokens_of t.now) u → ⊥) }
     ensures too_deep { IfTooDeep result (λ line. AreShallow 0 (tokens_of t.now) → ⊥) }

@@ -233,7 +233,7 @@ pub enum TypeSpec {
 pub struct TypeName {
     pub line: u32,
     pub types: TypeSpec,
-    pub stars: u32,
+    pub stars: usize,
 }
 
 /// An expression.

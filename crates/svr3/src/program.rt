@@ -80,7 +80,6 @@ fn parse_fault(error: &ParseErr) -> Fault
 
 // The unit that tokens spell.
 fn unit(alloc: Global, tokens: &Tokens) -> Result<Unit, Fault>
-    requires counted { length (tokens_of tokens.now) < 4294967295 }
     ensures { Parses (tokens_of tokens.now) result }
 {
     match parse(alloc, tokens) {

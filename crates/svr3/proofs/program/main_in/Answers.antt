@@ -21,6 +21,3 @@ pub returns : goal.returns
 returns c =
     typed_tokens (tokens_of c.args.tokens.now) (unit_of c.in_ok-unit.unit) c.small_main.result
     (ap (λ xs. are_few 0 (map token_of xs)) (sym c.deref.ensures.value) ∙ sym c.are_few.ensures ∙ c.if-not-are_few.false) c.in_ok-unit.ensures c.small_main.ensures.typed
-
-pub unit-requires : goal.unit-requires
-unit-requires c = record { counted = (let len = length-map c.args.tokens.now.list.items token_of in omega (arith, len, c.requires.counted)) }
