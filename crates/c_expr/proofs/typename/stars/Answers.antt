@@ -6,11 +6,6 @@ use Rattle.c_expr.proofs.typename.stars.Goals as goal
 pub loop-after-init : goal.loop-after-init
 loop-after-init c = record { few = omega arith; same = stars_begin (left c.args.rest) }
 
-pub overflow_add-count : goal.overflow_add-count
-overflow_add-count c =
-    let one : length c.loop-after.ahead.tokens.now ≡ suc (length c.in-Some.after.tokens.now) = star_fewer c.loop-after.ahead.tokens.now c.in-Some.after.tokens.now c.in-Some.ensures in
-    omega (arith, one, c.loop-after.invariant.few, c.args.rest.counted)
-
 pub loop-after-preserved : goal.loop-after-preserved
 loop-after-preserved c =
     let one : length c.loop-after.ahead.tokens.now ≡ suc (length c.in-Some.after.tokens.now) = star_fewer c.loop-after.ahead.tokens.now c.in-Some.after.tokens.now c.in-Some.ensures in
