@@ -1,0 +1,12 @@
+pub mod Indexed
+pub mod Entered
+pub mod Firsts
+pub mod Laying
+pub mod Blocks
+pub mod Redeclared
+pub mod TagsIn
+pub mod Answers
+pub mod Judges
+pub mod JudgesUnit
+pub mod Joined
+pub mod UnitRows

@@ -1,0 +1,25 @@
+use Rattle.std.proofs.Common.{rules, ◌≡◌, ℕ, List, [], ◌∷◌, ◌++◌, length, Option, Some, None, ap, sym, ◌∙◌}
+use Rattle.std.specs.Str.{bytes_eq}
+use Rattle.c_type.specs.Names.{Name, pick}
+use Rattle.c_scope.specs.declared.scope.Entry.{Entry}
+use Rattle.c_scope.specs.Entries.{entries_of, meaning_of}
+use Rattle.c_scope.specs.Places.{place_of}
+use Rattle.c_scope.proofs.Indexed.{at_inserted, at_bytes}
+use Rattle.c_scope.proofs.Entered.{entered, entries_length}
+use Rattle.c_scope.proofs.scope.Scope.add.Goals as goal
+
+pub invariant_of-self-2 : goal.invariant_of-self-2
+invariant_of-self-2 c = record {
+  indexed = λ x.
+      let es : List Entry = c.args.self.now.entries.items in
+      let e : Entry = record { name = c.args.name; meaning = c.args.meaning } in
+      let pushed : es ++ e ∷ [] ≡ c.push.new.self.items = search rules in
+      let key : c.in_ok-key.key.items ≡ c.args.name = search rules in
+      let place : c.len-place.result ≡ length (entries_of es) = (let e : c.len-place.result ≡ length es = search rules in e) ∙ sym (entries_length es) in
+      ap (λ l. at_bytes (λ k. k.items) l x) c.in_ok-insert.ensures.entries ∙
+      at_inserted (λ k. k.items) c.args.self.now.index.entries c.in_ok-key.key c.len-place.result x ∙
+      ap (λ n. pick (bytes_eq x n) (Some c.len-place.result) (at_bytes (λ k. k.items) c.args.self.now.index.entries x)) key ∙
+      ap (λ n. pick (bytes_eq x c.args.name) (Some n) (at_bytes (λ k. k.items) c.args.self.now.index.entries x)) place ∙
+      ap (pick (bytes_eq x c.args.name) (Some (length (entries_of es)))) (c.args.self.now.indexed x) ∙
+      sym (ap (place_of x) (entered es e)) ∙ ap (λ l. place_of x (entries_of l)) pushed;
+}

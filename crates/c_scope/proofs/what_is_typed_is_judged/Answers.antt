@@ -1,0 +1,5 @@
+use Rattle.c_scope.proofs.Joined.{is_complete}
+use Rattle.c_scope.proofs.what_is_typed_is_judged.Goals as goal
+
+pub returns : goal.returns
+returns c = record { law = is_complete }

@@ -1,0 +1,7 @@
+-- The scopes around the innermost one.
+use Rattle.std.specs.Prelude.{List, [], ◌∷◌}
+use Rattle.c_tree.specs.RuleScope.{Entry}
+
+abbrev pub around : List (List Entry) → List (List Entry)
+around [] = []
+around (es ∷ rest) = rest
