@@ -1,7 +1,6 @@
 -- The innermost of the scopes inside a function.
-use Rattle.std.proofs.Common.{◌≡◌, ℕ, ◌+◌, ◌-◌, ◌<◌, List, [], ◌∷◌, ◌++◌, length, map, reverse, take, get_or, set, ap, sym, ◌∙◌, arith, subst}
+use Rattle.std.proofs.Common.{◌≡◌, ℕ, ◌+◌, List, [], ◌∷◌, ◌++◌, length, map, reverse, take, get_or, set, ap, sym, ◌∙◌, arith}
 use Rattle.std.proofs.lemmas.List.{map-append, reverse-append, take_more, take_more_set, length-set, take_all}
-use Rattle.c_tree.specs.RuleScope.{Entry}
 use Rattle.c_scope.specs.declared.scope.Scope.{Scope}
 use Rattle.c_scope.specs.EnvOf.{scope_of, blocks_of}
 

@@ -1,5 +1,5 @@
 -- The first tag and the first function body of a name, where one more is added behind the others.
-use Rattle.std.proofs.Common.{◌≡◌, ℕ, suc, ◌+◌, List, [], ◌∷◌, ◌++◌, length, Bool, true, false, ◌&&◌, not, Option, Some, None, refl, ap, sym, ◌∙◌, arith, true≢false}
+use Rattle.std.proofs.Common.{◌≡◌, ℕ, suc, ◌+◌, List, [], ◌∷◌, ◌++◌, length, Bool, true, false, ◌&&◌, Option, Some, None, refl, ap, sym, ◌∙◌, arith, true≢false}
 use Rattle.std.proofs.Math.Bool.{and-true}
 use Rattle.c_type.specs.Names.{Name, same_name, pick, or_else}
 use Rattle.c_type.specs.declared.TagKind.{TagKind}

@@ -1,7 +1,7 @@
 -- What a declaration does, by what its name meant before it.
-use Rattle.std.proofs.Common.{◌≡◌, ℕ, List, [], ◌∷◌, Bool, true, false, Option, Some, None, ap, sym, ◌∙◌}
+use Rattle.std.proofs.Common.{◌≡◌, List, ◌∷◌, true, false, Some, None, ap, sym, ◌∙◌}
 use Rattle.c_type.specs.Names.{Name}
-use Rattle.c_tree.specs.RuleScope.{Judged, Is, Fails, provided, Env, Entry, Meaning, in_scope}
+use Rattle.c_tree.specs.RuleScope.{Is, Fails, provided, Env, Entry, Meaning, in_scope}
 use Rattle.c_tree.specs.RuleStmts.{is_free, innermost, added}
 use Rattle.c_tree.specs.RuleTags.{in_file}
 use Rattle.c_tree.specs.RuleUnit.{again, combined}

@@ -34,6 +34,8 @@ use std::alloc::{AllocError, Global};
 /// After an error nothing is said of it. A number that would pass 4294967295 is want of memory too.
 #[derive(Drop)]
 pub struct Scopes {
+    /// The allocator of what is declared.
+    pub alloc: Global,
     // The scopes inside a function, the innermost last.
     blocks: Vec<Scope>,
     file: Scope,
@@ -88,6 +90,7 @@ impl Scopes {
         let heads = heads_in(alloc, unit)?;
         let bodies = bodies_in(alloc, unit)?;
         Ok(Scopes {
+            alloc,
             blocks: Vec::new(alloc),
             file: Scope::new(alloc),
             tags: Tags {
@@ -100,11 +103,6 @@ impl Scopes {
             heads,
             bodies,
         })
-    }
-
-    /// The allocator of what is declared.
-    pub fn alloc(&self) -> Global {
-        *self.texts.allocator()
     }
 
     /// The tags whose bodies are closed.
@@ -186,7 +184,7 @@ impl Scopes {
     {
         Ok(match self.bodies.number(is_static, name) {
             Some(number) => Ref::Func(number),
-            None => Ref::Outer(Name::of(self.alloc(), name)?),
+            None => Ref::Outer(Name::of(self.alloc, name)?),
         })
     }
 
@@ -230,7 +228,7 @@ impl Scopes {
         ensures judged { Says (λ _. env_of self.new) (declared_here (env_of self.old) name (meaning_of meaning)) result }
     {
         if self.blocks.is_empty() {
-            let mut scope = Scope::new(self.alloc());
+            let mut scope = Scope::new(self.alloc);
             scope.add(name, meaning)?;
             self.blocks.push(scope)?;
             return Ok(());
@@ -264,7 +262,7 @@ impl Scopes {
         let Some(old) = self.in_file(name.as_slice()) else {
             return Ok(self.add_in_file(name, meaning)?);
         };
-        let Some(meaning) = again(self.alloc(), old, &meaning)? else {
+        let Some(meaning) = again(self.alloc, old, &meaning)? else {
             return Err(TypeErr::Rule(1, line));
         };
         Ok(self.add_in_file(name, meaning)?)
@@ -274,7 +272,7 @@ impl Scopes {
     pub fn enter(&mut self) -> Result<(), AllocError>
         ensures inside { OnOk result (env_of self.new ≡ s.enter (env_of self.old)) }
     {
-        let scope = Scope::new(self.alloc());
+        let scope = Scope::new(self.alloc);
         self.blocks.push(scope)?;
         Ok(())
     }
@@ -299,7 +297,7 @@ impl Scopes {
     pub fn enter_body(&mut self, params: &[TParam]) -> Result<(), AllocError>
         ensures inside { OnOk result (env_of self.new ≡ u.in_body (map var_of params.now) (env_of self.old)) }
     {
-        let scope = parameter_scope(self.alloc(), params)?;
+        let scope = parameter_scope(self.alloc, params)?;
         self.started(1)?;
         self.autos = 0;
         self.blocks.clear();

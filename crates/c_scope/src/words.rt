@@ -117,7 +117,7 @@ pub fn spec_type(c: &Scopes, line: u32, words: &TypeSpec) -> Result<CType, TypeE
         TypeSpec::Void => Ok(CType::Void),
         TypeSpec::Tag(tag) => c.tag(tag.line, tag.kind, tag.name.as_slice()),
         TypeSpec::Named(name) => match c.meaning(name.as_slice()) {
-            Some(Meaning::Alias(ty)) => Ok(copy(c.alloc(), ty)?),
+            Some(Meaning::Alias(ty)) => Ok(copy(c.alloc, ty)?),
             _ => Err(TypeErr::Rule(2, line)),
         },
     }
@@ -151,7 +151,7 @@ pub fn cast_type(c: &Scopes, name: &TypeName) -> Result<CType, TypeErr>
     ensures judged { Says type_of (r.cast_type (env_of c.now) (type_name_of name.now)) result }
 {
     let base = spec_type(c, name.line, &name.types)?;
-    let ty = pointer_to(c.alloc(), name.stars, base)?;
+    let ty = pointer_to(c.alloc, name.stars, base)?;
     if is_void(&ty) {
         return Ok(ty);
     }
@@ -164,7 +164,7 @@ pub fn sized_type(c: &Scopes, name: &TypeName) -> Result<CType, TypeErr>
     ensures judged { Says type_of (r.sized_type (env_of c.now) (type_name_of name.now)) result }
 {
     let base = spec_type(c, name.line, &name.types)?;
-    let ty = pointer_to(c.alloc(), name.stars, base)?;
+    let ty = pointer_to(c.alloc, name.stars, base)?;
     declared_type(c, name.line, &ty)?;
     if !is_sized(c.tags(), &ty) {
         return Err(TypeErr::Rule(3, name.line));

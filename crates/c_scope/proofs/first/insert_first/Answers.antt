@@ -1,6 +1,6 @@
-use Rattle.std.proofs.Common.{rules, ◌≡◌, List, ℕ, None, Some, Option, Bool, true, false, is_some, if◌then◌else◌, refl, ap, sym, ◌∙◌}
+use Rattle.std.proofs.Common.{rules, ◌≡◌, None, Some, true, is_some, ap, ◌∙◌}
 use Rattle.std.specs.Str.{bytes_eq}
-use Rattle.c_type.specs.Names.{Name, or_else, pick}
+use Rattle.c_type.specs.Names.{pick}
 use Rattle.c_scope.proofs.Indexed.{at_inserted, at_bytes, first_kept, first_put}
 use Rattle.c_scope.proofs.first.insert_first.Goals as goal
 

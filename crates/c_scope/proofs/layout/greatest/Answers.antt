@@ -1,4 +1,4 @@
-use Rattle.std.proofs.Common.{◌≤◌, arith}
+use Rattle.std.proofs.Common.{arith}
 use Rattle.c_type.specs.Of.{members_of, tags_of}
 use Rattle.c_scope.proofs.Laying.{greatest_or_one}
 use Rattle.c_scope.proofs.layout.greatest.Goals as goal

@@ -1,5 +1,5 @@
-use Rattle.std.proofs.Common.{rules, ◌≡◌, List, [], ◌∷◌, ◌++◌}
-use Rattle.c_type.specs.Names.{Name, or_default}
+use Rattle.std.proofs.Common.{rules, ◌≡◌, [], ◌∷◌, ◌++◌}
+use Rattle.c_type.specs.Names.{or_default}
 use Rattle.c_type.specs.declared.TagKind.TheVariants as k
 use Rattle.c_tree.specs.TreeOf.{mems_from}
 use Rattle.c_tree.specs.RuleScope.{TagHead}

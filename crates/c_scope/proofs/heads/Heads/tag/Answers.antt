@@ -1,4 +1,4 @@
-use Rattle.std.proofs.Common.{rules, ◌≡◌, ℕ, List, map, Option, Some, None, true, false, ap, sym, ◌∙◌}
+use Rattle.std.proofs.Common.{rules, ◌≡◌, ℕ, List, map, Some, None, true, false, ap, sym, ◌∙◌}
 use Rattle.c_tree.specs.RuleScope.{Judged, Is, Fails, provided, same_kind, type_of_tag}
 use Rattle.c_type.specs.declared.TagKind.{TagKind}
 use Rattle.c_tree.specs.RuleScope as r

@@ -1,8 +1,8 @@
-use Rattle.std.proofs.Common.{rules, ◌≡◌, ℕ, List, [], ◌∷◌, ◌++◌, length, Option, Some, None, ap, sym, ◌∙◌}
+use Rattle.std.proofs.Common.{rules, ◌≡◌, List, [], ◌∷◌, ◌++◌, length, Some, ap, sym, ◌∙◌}
 use Rattle.std.specs.Str.{bytes_eq}
-use Rattle.c_type.specs.Names.{Name, pick}
+use Rattle.c_type.specs.Names.{pick}
 use Rattle.c_scope.specs.declared.scope.Entry.{Entry}
-use Rattle.c_scope.specs.Entries.{entries_of, meaning_of}
+use Rattle.c_scope.specs.Entries.{entries_of}
 use Rattle.c_scope.specs.Places.{place_of}
 use Rattle.c_scope.proofs.Indexed.{at_inserted, at_bytes}
 use Rattle.c_scope.proofs.Entered.{entered, entries_length}
