@@ -1,6 +1,6 @@
 -- Whether a fact passes a test, one fact after the other.
-use Rattle.std.proofs.Common.{◌≡◌, ◌<◌, ℕ, suc, ◌+◌, List, ◌∷◌, length, drop, slice_index_or, Bool, true, false, ◌||◌, refl, sym, ap, ◌∙◌, add-one}
-use Rattle.std.specs.List.{list_any, filter_map, cons_option}
+use Rattle.std.proofs.Common.{◌≡◌, ◌<◌, ℕ, suc, ◌+◌, List, ◌∷◌, length, drop, slice_index_or, Bool, true, false, ◌||◌, sym, ap, ◌∙◌, add-one}
+use Rattle.std.specs.List.{list_any}
 use Rattle.std.proofs.Math.Seq.{drop-cons}
 use Rattle.c_tree.specs.JoinSaid.{Fact}
 use Rattle.c_whole.specs.Facts.{fact_of, facts_of}

@@ -1,5 +1,5 @@
 -- Calls with another number of arguments.
-use Rattle.std.proofs.Common.{◌≡◌, ◌≤◌, ℕ, suc, List, [], ◌∷◌, length, map, Bool, true, false, ◌&&◌, refl, sym, ap, ◌∙◌, arith}
+use Rattle.std.proofs.Common.{◌≡◌, ◌≤◌, suc, List, [], ◌∷◌, length, map, Bool, true, false, ◌&&◌, refl, ap, ◌∙◌, arith}
 use Rattle.c_type.specs.Types.{CType, Tag}
 use Rattle.c_tree.specs.declared.typed_expr.TExpr.{TExpr}
 use Rattle.c_tree.specs.declared.typed_unit.TParam.{TParam}

@@ -1,5 +1,5 @@
 -- What numbers of tags tell of tags that agree.
-use Rattle.std.proofs.Common.{◌≡◌, ◌<◌, ◌⊎◌, inl, inr, ℕ, zero, suc, ◌+◌, List, [], ◌∷◌, length, map, Bool, true, false, nat_eq, ◌&&◌, ◌||◌, slice_get, Option, Some, None, refl, sym, ap, subst, ◌∙◌, true≢false, arith}
+use Rattle.std.proofs.Common.{◌≡◌, ◌⊎◌, inl, inr, ℕ, zero, suc, ◌+◌, List, [], ◌∷◌, length, map, Bool, true, false, nat_eq, ◌&&◌, ◌||◌, slice_get, Option, Some, None, refl, sym, ap, subst, ◌∙◌, true≢false, arith}
 use Rattle.std.specs.Option.{option_map}
 use Rattle.std.proofs.lemmas.Bool.{eqb-true, eq-eqb}
 use Rattle.std.proofs.lemmas.Slice.Eq.{bytes_eq-Decides}
@@ -7,10 +7,10 @@ use Rattle.c_type.specs.Names.{Name, same_name, pick, at_or}
 use Rattle.c_type.specs.Types.{Tag}
 use Rattle.c_tree.specs.TUnit.{TypedUnit}
 use Rattle.c_tree.specs.Context.{no_unit}
-use Rattle.c_tree.specs.JoinTypes.{TagAt, at, Relation, tag_of, is_named, alike_where, between, IsClosed, IsWidest}
+use Rattle.c_tree.specs.JoinTypes.{TagAt, at, Relation, tag_of, is_named, alike_where, between, IsClosed}
 use Rattle.c_tree.specs.JoinChecks.{class_of, same_class}
 use Rattle.c_whole.specs.Types.{same_number}
-use Rattle.c_whole.specs.Classes.{alike_at, stays, row_stays, rows_stay, renumbered, renumbered_row, renumbered_rows, first_number, first_row, first_rows, IsNumbered, IsCoarse}
+use Rattle.c_whole.specs.Classes.{alike_at, stays, row_stays, rows_stay, renumbered, renumbered_row, renumbered_rows, first_row, first_rows, IsNumbered, IsCoarse}
 use Rattle.c_whole.proofs.Replace.{both_true, where_turn, where_join, where_wider}
 use Rattle.c_whole.proofs.SameClass.{numbers_same, number_self, equates}
 

@@ -1,5 +1,5 @@
 -- What is said in the trees that hold a vector of trees, from the lists of their parts.
-use Rattle.std.proofs.Common.{◌≡◌, ℕ, List, [], ◌∷◌, ◌++◌, refl, sym, ap, map, ◌∙◌, Vec, Box, Global}
+use Rattle.std.proofs.Common.{◌≡◌, ℕ, List, ◌++◌, refl, sym, ap, map, ◌∙◌, Vec, Box, Global}
 use Rattle.std.proofs.lemmas.List.{append_assoc}
 use Rattle.std.specs.List.{flat_map}
 use mathlib.Core.Former.{Count}

@@ -1,5 +1,5 @@
 -- The first refusal among the groups of facts is that of the units.
-use Rattle.std.proofs.Common.{◌≡◌, List, Bool, Option, sym, ap, ◌∙◌}
+use Rattle.std.proofs.Common.{◌≡◌, List, Bool, Option, ap, ◌∙◌}
 use Rattle.c_type.specs.Names.{Name}
 use Rattle.c_tree.specs.TUnit.{TypedUnit}
 use Rattle.c_tree.specs.JoinSaid.{Subject, Fact, facts}

@@ -1,5 +1,5 @@
 -- The facts that values of the code stand for.
-use Rattle.std.specs.Prelude.{ℕ, List, map, Bool, not, ◌&&◌}
+use Rattle.std.specs.Prelude.{List, map, Bool, not, ◌&&◌}
 use Rattle.std.specs.Borrow.{Bor}
 use Rattle.c_type.specs.Names.{Name}
 use Rattle.c_tree.specs.declared.typed_unit.TFunc.{TFunc}

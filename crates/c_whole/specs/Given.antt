@@ -1,5 +1,5 @@
 -- What is given to a name: types, and parameters of a definition.
-use Rattle.std.specs.Prelude.{ℕ, List, [], ◌∷◌, map, Bool, false, nat_eq, Option, Some, None, option_to_list}
+use Rattle.std.specs.Prelude.{List, [], ◌∷◌, map, Bool, false, nat_eq, Option, Some, None, option_to_list}
 use Rattle.std.specs.Option.{option_map}
 use Rattle.c_type.specs.Names.{pick}
 use Rattle.c_type.specs.declared.Kind.{Kind}

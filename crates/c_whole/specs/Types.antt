@@ -1,5 +1,5 @@
 -- How the code compares types of two units.
-use Rattle.std.specs.Prelude.{ℕ, suc, List, [], map, Bool, true, false, Option, Some, None, nat_eq, ◌&&◌}
+use Rattle.std.specs.Prelude.{ℕ, suc, List, map, Bool, true, false, Option, Some, None, nat_eq, ◌&&◌}
 use Rattle.c_type.specs.Names.{pick, same_name}
 use Rattle.c_type.specs.Types.{CType, num, void, ptr, arr, struct, union, enum, fun, kind_code, Member}
 use Rattle.c_tree.specs.JoinTypes.{between, agree_by}

@@ -1,6 +1,5 @@
 -- What is left decides.
 use Rattle.std.proofs.Common.{◌≡◌, drop}
-use Rattle.std.specs.List.{list_any}
 use Rattle.c_tree.specs.JoinChecks as s
 use Rattle.c_whole.specs.Facts.{facts_of}
 use Rattle.c_whole.proofs.checks.has_main.Given as goal

@@ -1,8 +1,6 @@
 -- What was added and what is left is the whole.
-use Rattle.std.proofs.Common.{◌≡◌, ◌+◌, ◌++◌, length, map, drop}
-use Rattle.c_type.specs.Of.{tag_of}
+use Rattle.std.proofs.Common.{◌≡◌, ◌++◌, map, drop}
 use Rattle.c_tree.specs.TypedOf.{unit_of}
-use Rattle.c_whole.specs.Types.{classes_of}
 use Rattle.c_whole.specs.Classes as spec
 use Rattle.c_whole.specs.Classes.{rows_of, leader_in, other_in, named_in}
 use Rattle.c_whole.proofs.classes.first_rows.Given as goal

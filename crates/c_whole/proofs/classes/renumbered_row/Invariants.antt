@@ -1,6 +1,5 @@
 -- What was added and what is left is the whole.
-use Rattle.std.proofs.Common.{◌≡◌, ◌+◌, ◌++◌, length, map, drop}
-use Rattle.c_type.specs.Of.{tag_of}
+use Rattle.std.proofs.Common.{◌≡◌, ◌++◌, map, drop}
 use Rattle.c_tree.specs.TypedOf.{unit_of}
 use Rattle.c_whole.specs.Types.{classes_of}
 use Rattle.c_whole.specs.Classes as spec

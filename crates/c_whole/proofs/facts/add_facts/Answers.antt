@@ -1,4 +1,4 @@
-use Rattle.std.proofs.Common.{refl, sym, ap, ◌∙◌, ◌++◌, ◌≡◌, ◌&&◌, not, map, List, ℕ}
+use Rattle.std.proofs.Common.{ap, ◌∙◌, ◌++◌, ◌&&◌, not, map}
 use Rattle.std.specs.List.{list_any}
 use Rattle.c_tree.specs.JoinSaid.{fact, declares_static, defines_static}
 use Rattle.c_tree.specs.TypedOf.{unit_of}

@@ -1,11 +1,11 @@
-use Rattle.std.proofs.Common.{rules, refl, sym, ap, ◌∙◌, ◌+◌, map, arith, drop}
+use Rattle.std.proofs.Common.{sym, ap, ◌∙◌, ◌+◌, arith, drop}
 use Rattle.std.specs.List.{position_or_len, fold}
 use Rattle.indexmap.specs.IndexSet.{insert_key}
 use Rattle.c_whole.specs.contracts.facts.SubjectPartialEq.TheImpl.{eq-value}
 use Rattle.c_whole.specs.Facts.{facts_of}
 use Rattle.c_whole.specs.Groups.{placed, same_name}
 use Rattle.c_whole.proofs.FoldStep.{fold_step}
-use Rattle.c_whole.proofs.Placed.{eq_is, found_by, insert_by, names}
+use Rattle.c_whole.proofs.Placed.{eq_is, found_by, insert_by}
 use Rattle.c_whole.proofs.groups.groups.Goals as goal
 
 pub place-requires : goal.place-requires

@@ -1,5 +1,4 @@
-use Rattle.std.proofs.Common.{rules, refl, sym, ap, ◌∙◌, arith}
-use Rattle.std.proofs.lemmas.List.Sums.{prefix_len-le-length}
+use Rattle.std.proofs.Common.{rules, refl, ap, ◌∙◌, arith}
 use Rattle.c_whole.specs.Facts.{facts_of}
 use Rattle.c_whole.specs.Groups.{groups_of}
 use Rattle.c_whole.proofs.Placed.{with_others, as_last, names_stay, names_grow, names, found_at_end, facts_more}

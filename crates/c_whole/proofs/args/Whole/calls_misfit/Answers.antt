@@ -1,4 +1,4 @@
-use Rattle.std.proofs.Common.{rules, sym, map, ◌∙◌, arith}
+use Rattle.std.proofs.Common.{sym, map, ◌∙◌, arith}
 use Rattle.c_tree.specs.TypedOf.{unit_of}
 use Rattle.c_tree.specs.JoinChecks as s
 use Rattle.c_whole.specs.Types.{classes_of}
