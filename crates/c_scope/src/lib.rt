@@ -48,6 +48,3 @@ pub fn what_fails_is_refused()
 {
     // The law is all that is promised.
 }
-
-#[cfg(test)]
-mod tests;
