@@ -18,6 +18,7 @@ mod words;
 
 ghost use Rattle.c_scope.specs.Laws.{IsComplete, IsRefused, IsSound};
 
+pub use again::joined;
 pub use error::TypeErr;
 pub use scope::Meaning;
 pub use scopes::Scopes;

@@ -1,0 +1,10 @@
+pub mod FromHere
+pub mod Here
+pub mod Inits
+pub mod LabelsDiffer
+pub mod Lists
+pub mod NamesDiffer
+pub mod Objects
+pub mod Outside
+pub mod Statements
+pub mod TextsMet

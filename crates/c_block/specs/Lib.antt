@@ -1,0 +1,4 @@
+pub mod Here
+pub mod Initialisers
+pub mod PlaceOf
+pub mod SwitchParts

@@ -1,0 +1,4 @@
+pub mod Arms
+pub mod Bits
+pub mod Calls
+pub mod Outcomes

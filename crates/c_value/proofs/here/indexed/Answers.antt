@@ -1,0 +1,10 @@
+-- Of where it stands the rule asks for the closed tags alone.
+use Rattle.std.proofs.Common.{subst}
+use Rattle.c_tree.specs.RuleExprs as r
+use Rattle.c_tree.specs.TypedOf.{expr_of}
+use Rattle.c_scope.specs.Closed.{closed}
+use Rattle.c_scope.specs.Says.{Says}
+use Rattle.c_value.proofs.here.indexed.Goals as goal
+
+pub returns : goal.returns
+returns c = subst (λ ts. Says expr_of (r.subscript (closed ts) (expr_of c.args.a) (expr_of c.args.i)) c.subscript.result) c.tags.ensures.value c.subscript.ensures
