@@ -1,3 +1,4 @@
+pub mod NamesDiffer
 pub mod Indexed
 pub mod Entered
 pub mod Firsts
@@ -8,5 +9,5 @@ pub mod TagsIn
 pub mod Answers
 pub mod Judges
 pub mod JudgesUnit
-pub mod Joined
+pub mod TypingLaws
 pub mod UnitRows

@@ -1,15 +1,18 @@
 // The tags that a unit defines, by their names.
-ghost use Rattle.std.specs.Prelude.{◌≡◌, ◌∷◌, ◌++◌, [], List, ℕ, OnOk, map};
+ghost use Rattle.std.specs.Prelude.{◌≡◌, ◌∷◌, ◌++◌, [], List, ℕ, IfOk, OnOk, is_some, map, not};
 ghost use Rattle.std.specs.Str.{bytes_eq};
 ghost use Rattle.indexmap.specs.IndexMap.{get_by};
 ghost use Rattle.c_type.specs.Of.{type_of};
+ghost use Rattle.c_tree.specs.RuleNames.{tag_names};
 ghost use Rattle.c_tree.specs.RuleScope.{same_kind, tag_from, type_of_tag};
+ghost use Rattle.c_tree.specs.RuleTags as t;
 ghost use Rattle.c_scope.specs.Entries.{head_of};
 ghost use Rattle.c_scope.specs.Places.{head_from};
 ghost use Rattle.c_scope.specs.Says.{Says};
 
 use crate::error::TypeErr;
 use crate::first::insert_first;
+use crate::names::first_again;
 use c_type::{CType, TagId, TagKind};
 use indexmap::IndexMap;
 use num_le::Name;
@@ -20,6 +23,8 @@ use std::alloc::{AllocError, Global};
 pub struct Head {
     pub name: Name,
     pub kind: TagKind,
+    // Where its body begins.
+    pub line: u32,
 }
 
 /// The tags that a unit defines, in the order of their closing braces.
@@ -68,13 +73,13 @@ impl Heads {
     }
 
     /// Adds a tag behind the others.
-    pub fn add(&mut self, name: Name, kind: TagKind) -> Result<(), AllocError>
+    pub fn add(&mut self, name: Name, kind: TagKind, line: u32) -> Result<(), AllocError>
         ensures added { OnOk result (heads_of self.new ≡ heads_of self.old ++ record { name = name; kind = kind } ∷ []) }
     {
         let number = u32::try_from(self.list.len()).map_err(|_| AllocError)?;
         self.list.reserve(1)?;
         insert_first(&mut self.index, name.as_slice(), (number, kind))?;
-        self.list.push(Head { name, kind }).unwrap();
+        self.list.push(Head { name, kind, line }).unwrap();
         Ok(())
     }
 
@@ -89,5 +94,25 @@ impl Heads {
             return Err(TypeErr::Rule(3, line));
         }
         Ok(tagged(kind, *number))
+    }
+    /// The line of the first tag whose name another tag before it has. There is one exactly where two tags have one name;
+    /// those without a name differ from all.
+    pub fn again(&self) -> Result<Option<u32>, AllocError>
+        ensures told { IfOk result (λ x. is_some x ≡ not (t.names_differ (tag_names (heads_of self.now)))) }
+    {
+        let alloc = *self.index.allocator();
+        let mut names: Vec<&[u8]> = Vec::new(alloc);
+        let mut lines = Vec::new(alloc);
+        for head in &self.list {
+            let name = head.name.as_slice();
+            if !name.is_empty() {
+                names.push(name)?;
+                lines.push(head.line)?;
+            }
+        }
+        let Some(at) = first_again(alloc, &names)? else {
+            return Ok(None);
+        };
+        Ok(Some(lines.get(at).copied().unwrap_or(0)))
     }
 }

@@ -10,6 +10,7 @@ mod error;
 mod first;
 mod heads;
 mod layout;
+mod names;
 mod scope;
 mod scopes;
 mod tags_in;
@@ -18,10 +19,13 @@ mod words;
 
 ghost use Rattle.c_scope.specs.Laws.{IsComplete, IsRefused, IsSound};
 
+pub use again::joined;
 pub use error::TypeErr;
+pub use first::insert_first;
+pub use names::{first_again, names_differ};
 pub use scope::Meaning;
 pub use scopes::Scopes;
-pub use tags_in::declared;
+pub use tags_in::{declared, is_static_function};
 pub use types::{
     copy, copy_name, copy_ref, is_function, is_integer, is_object_pointer, is_pointer, is_same,
     is_scalar, is_sized, target, target_is_sized, wide,

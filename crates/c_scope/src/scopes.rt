@@ -1,11 +1,12 @@
 #![tactic(auto, unfolding(crate::specs::EnvOf::env_of))]
 
 // Where a part of a unit stands: what names and tags mean there, and which numbers were given.
-ghost use Rattle.std.specs.Prelude.{◌≡◌, ◌∷◌, ◌+◌, [], suc, length, take, List, ℕ, IfOk, OnOk, map};
+ghost use Rattle.std.specs.Prelude.{◌≡◌, ◌∷◌, ◌+◌, [], suc, length, take, List, ℕ, IfOk, OnOk, is_some, map, not};
 ghost use Rattle.std.specs.Option.{option_map};
 ghost use Rattle.c_type.specs.Of as o;
 ghost use Rattle.c_tree.specs.TreeOf.{unit_of};
 ghost use Rattle.c_tree.specs.TypedOf.{ref_of, var_of};
+ghost use Rattle.c_tree.specs.RuleNames.{tag_names};
 ghost use Rattle.c_tree.specs.RuleScope as r;
 ghost use Rattle.c_tree.specs.RuleStmts as s;
 ghost use Rattle.c_tree.specs.RuleTags as t;
@@ -176,6 +177,14 @@ impl Scopes {
         ensures judged { Says o.type_of (r.tag_from 0 (env_of self.now).heads kind name.now) result }
     {
         self.heads.tag(line, kind, name)
+    }
+
+    /// The line of the first tag of the unit whose name another tag before it has. There is one exactly where two tags have
+    /// one name.
+    pub fn tag_again(&self) -> Result<Option<u32>, AllocError>
+        ensures told { IfOk result (λ x. is_some x ≡ not (t.names_differ (tag_names (env_of self.now).heads))) }
+    {
+        self.heads.again()
     }
 
     /// What a function's name is bound to, static or external.

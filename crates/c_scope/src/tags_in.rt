@@ -52,17 +52,19 @@ fn in_def(alloc: Global, heads: &mut Heads, def: &TagDef) -> Result<(), AllocErr
     ensures added { OnOk result (heads_of heads.new ≡ heads_of heads.old ++ n.tags_in_def (u.def_of def.now)) }
 {
     match def {
-        TagDef::Struct(_, name, mems) => {
+        TagDef::Struct(line, name, mems) => {
             in_mems(alloc, heads, mems)?;
-            heads.add(name_or_none(alloc, name)?, TagKind::Struct)?;
+            heads.add(name_or_none(alloc, name)?, TagKind::Struct, *line)?;
             Ok(())
         }
-        TagDef::Union(_, name, mems) => {
+        TagDef::Union(line, name, mems) => {
             in_mems(alloc, heads, mems)?;
-            heads.add(name_or_none(alloc, name)?, TagKind::Union)?;
+            heads.add(name_or_none(alloc, name)?, TagKind::Union, *line)?;
             Ok(())
         }
-        TagDef::Enum(_, name, _) => heads.add(name_or_none(alloc, name)?, TagKind::Enum),
+        TagDef::Enum(line, name, _) => {
+            heads.add(name_or_none(alloc, name)?, TagKind::Enum, *line)
+        }
     }
 }
 
@@ -118,7 +120,8 @@ fn in_ext(alloc: Global, heads: &mut Heads, ext: &Ext) -> Result<(), AllocError>
     }
 }
 
-fn is_static(specs: &Option<FileSpecs>) -> bool
+/// Whether a function's head has the word `static`.
+pub fn is_static_function(specs: &Option<FileSpecs>) -> bool
     ensures value { result ≡ is_static_rule (n.storage_of (u.part_of u.file_specs_of specs.now)) }
 {
     match specs {
@@ -132,7 +135,10 @@ fn body_in(alloc: Global, bodies: &mut Bodies, ext: &Ext) -> Result<(), AllocErr
 {
     match ext {
         Ext::Func(_, specs, declr, _, _) => {
-            bodies.add(copy_name(alloc, declared(declr))?, is_static(specs))
+            bodies.add(
+                copy_name(alloc, declared(declr))?,
+                is_static_function(specs),
+            )
         }
         _ => Ok(()),
     }

@@ -1,13 +1,14 @@
--- What a text's end is, against the machine and against the source machine.
-use Rattle.std.proofs.Common.{◌≡◌, ◌⊎◌, ◌<◌, ◌≤◌, ◌+◌, ◌-◌, ◌*◌, ℕ, suc, List, [], length, length-take, take, inl, inr, refl, sym, arith, ap, ◌∙◌}
-use Rattle.std.specs.Prelude.{Option, Some, None, Vec, Result, Ok, Err}
+-- What the end of a call is, against the machine and against the source machine.
+use Rattle.std.proofs.Common.{◌≡◌, ◌⊎◌, ◌<◌, ◌≤◌, ◌+◌, ◌-◌, ◌*◌, ℕ, suc, List, [], length, map, inl, inr, refl, arith, ap, ◌∙◌}
+use Rattle.std.specs.Prelude.{Option, Some, None, Vec, Ok, Err}
 use Rattle.std.specs.Io.KnownBytes.{Appends}
 use Rattle.std.proofs.KnownBytes.{Appends-nil}
+use Rattle.std.proofs.lemmas.List.{length-map}
+use Rattle.std.proofs.lemmas.List.Elements.{All-map}
 use Rattle.std.specs.declared.alloc.Global.{Global}
-use Rattle.std.proofs.lemmas.Bool.{cases_lt}
-use Rattle.std.proofs.lemmas.List.{take_all}
 use Rattle.mach_mem.specs.Space.{Space, IsInitial}
-use Rattle.c_tree.specs.TUnit.{Func}
+use Rattle.c_type.specs.Names.{Name}
+use Rattle.c_tree.specs.TUnit.{Func, Program}
 use Rattle.c_tree.specs.Context.{linked}
 use Rattle.c_tree.specs.Values.{Ended, Stopped}
 use Rattle.c_tree.specs.State.{State, Halt, no_changes}
@@ -17,24 +18,24 @@ use Rattle.gen_expr.specs.Whole.{started}
 use Rattle.gen_expr.specs.Laws.{Exited, Reached}
 use Rattle.gen_expr.proofs.WholeRuns.{whole_ends, whole_stops}
 use Rattle.outside.specs.Causes.{Rose}
-use Rattle.outside.specs.Told.{Held, ReadsFile, ReadsHeld}
-use Rattle.outside.specs.declared.FileErr.{FileErr}
-use Rattle.outside.specs.declared.FileErr.TheVariants as fe
+use Rattle.outside.specs.Told.{Held}
 use Rattle.svr3.specs.declared.process.Halt as h
 use Rattle.svr3.specs.declared.process.Halt.TheVariants as halt
-use Rattle.svr3.specs.Command.{Request, asked}
+use Rattle.svr3.specs.Command.{Request, asked, asked_for}
 use Rattle.svr3.specs.Output.{GainsFront}
-use Rattle.svr3.specs.Process.{Stops, Breaks}
-use Rattle.svr3.specs.SmallForm.{IsSmallText, program_of}
+use Rattle.svr3.specs.SmallForm.{program_of}
+use Rattle.svr3.specs.Front.{IsAccepted, IsSmall, Runs, IsRight}
 use Rattle.svr3.specs.Compiled.{IsCode, bytes_of}
-use Rattle.svr3.specs.Ended.{EndsCode, stopped, broken, wanting, EndsText, refused, unread, ran}
-use Rattle.svr3.specs.Answer.{Outside, IsExcused, IsSilent, IsEnd, IsEndWith, end_of, MachineAnswers, enough, SourceAnswers, TextAnswers, FileAnswers, MayEnd, FilesAnswer, WordsAnswer, Answers, IsNamed, IsOrMemory}
+use Rattle.svr3.specs.Reading.{Reading, Texts, Lacks, Exceeds, reading, MayRead, IsReading, ReadsTexts, texts_of}
+use Rattle.svr3.specs.Lines.{IsNamed, IsOrMemory}
+use Rattle.svr3.specs.Ended.{EndsCode, stopped, broken, wanting, EndsTexts, refused, unread, ran}
+use Rattle.svr3.specs.Answer.{Outside, IsExcused, IsSilent, IsEndWith, end_of, MachineAnswers, enough, SourceAnswers, MayEnd, TextsAnswer, ReadingAnswers, FilesAnswer, WordsAnswer, Answers}
 use Rattle.svr3.specs.declared.answer.End.{End}
-use Rattle.svr3.specs.declared.answer.End.TheVariants.{Ran, Signalled, Usage, Absent, TooLarge, Refused, ReadFault, WriteFault, Budget, Memory}
-use Rattle.svr3.specs.declared.answer.Refusal.TheVariants.{Unbuilt}
-use Rattle.svr3.proofs.Stopping.{Begins}
+use Rattle.svr3.specs.declared.answer.End.TheVariants.{Ran, Signalled, Session, Built, Usage, Absent, TooLarge, Refused, ReadFault, WriteFault, Budget, Memory}
+use Rattle.svr3.specs.declared.answer.Refusal.{Refusal}
 use Rattle.svr3.proofs.MainFits.{IsTaken, main_taken}
 use Rattle.svr3.proofs.Compiling.{one_main}
+use Rattle.svr3.proofs.Causes.{right_syntax, right_rule, right_join, right_accepted, accepted_syntax, accepted_rule, accepted_join, one_program}
 use Rattle.svr3.proofs.Ending.{one_memory, front_of_exit, earlier_front, begins_front, begins_all, breaks_front, one_stop, exits_or_spent, goes_past}
 
 -- nothing was written
@@ -106,7 +107,7 @@ module _ (f : Func) (most : ℕ) (o : Outside) (end : End) where
         let before = earlier_front (started m []) breaks.last r.last breaks.count r.count breaks.ran_to r.ran_to (omega arith) in
         (inr (inr (inr (is, rose))), begins_front o.old o.new breaks.last.output s.output (rw (r.output_is) at before) breaks.front)
 
-    source_answers : Ends (bytes_of f) → SourceAnswers f bytes most o end
+    source_answers : Ends (bytes_of f) → SourceAnswers (program_of f) bytes most o end
     source_answers code = record {
       ends = λ n status s e. elim (ends_with code n status s e) [ inl x ↦ inl x | inr x ↦ inr (x.0, x.1) ];
       budget_is_enough = λ n status s e much. elim (ends_with code n status s e) [ inl x ↦ x | inr x ↦ absurd (not_enough s.turns x.2 much) ];
@@ -122,144 +123,131 @@ module _ (f : Func) (most : ℕ) (o : Outside) (end : End) where
             split : (turns : ℕ) → (turns + 2) * limit ≡ suc turns * limit + limit
             split turns = omega arith
 
--- ---- a text within the limit
+-- ---- texts
 
-text_excused : (name text : List ℕ) (most : ℕ) (o : Outside) (end : End) → length text ≤ 262144 → IsExcused o end → IsSilent o → TextAnswers name text most o end
-text_excused name text most o end within excused silent = record {
-  large = λ h. absurd (omega arith);
-  refused = λ h none. (inr excused, silent);
-  machine = λ f s mem starts stop output here. inr (excused, silent_front o.old o.new output silent);
-  source = λ f s. record {
+excused_may : (texts : List (List ℕ)) (o : Outside) (end : End) → IsExcused o end → MayEnd texts o end
+excused_may texts o end (inl is) = rw is tt
+excused_may texts o end (inr (inl is)) = rw (is.0) is.1
+excused_may texts o end (inr (inr is)) = rw (is.0) is.1
+
+-- where nothing was written and want of memory or a fault is the end
+texts_excused : (texts : List (List ℕ)) (most : ℕ) (o : Outside) (end : End) → IsExcused o end → IsSilent o → TextsAnswer texts most o end
+texts_excused texts most o end excused silent = record {
+  only = excused_may texts o end excused;
+  syntax = λ k s. (inr excused, silent);
+  rule = λ k n s. (inr excused, silent);
+  join_fails = λ w s. (inr excused, silent);
+  unbuilt = λ p a none. (inr excused, silent);
+  machine = λ p a f s mem starts stop output here. inr (excused, silent_front o.old o.new output silent);
+  source = λ p a f s. record {
     ends = λ n status st e. inl (inr (excused, silent_front o.old o.new st.output silent));
     budget_is_enough = λ n status st e much. inr (excused, silent_front o.old o.new st.output silent);
     goes_on = λ forever. let there = forever 1 (omega arith) in (inr excused, 1, there.0, there.1, silent_front o.old o.new there.0.output silent);
   };
 }
 
-text_large : (name text : List ℕ) (most : ℕ) (o : Outside) (end : End) → 262144 < length text → (end ≡ TooLarge name) ⊎ IsExcused o end → IsSilent o → TextAnswers name text most o end
-text_large name text most o end long is silent = record {
-  large = λ h. (is, silent);
-  refused = λ h none. absurd (omega arith);
-  machine = λ f s mem starts stop output here. absurd (too_short f s);
-  source = λ f s. absurd (too_short f s);
+texts_refused : (texts : List (List ℕ)) (most : ℕ) (o : Outside) (end : End) (why : Refusal) → IsRight texts why → end ≡ Refused why → IsSilent o → TextsAnswer texts most o end
+texts_refused texts most o end why right is silent = record {
+  only = rw is right;
+  syntax = λ k s. let r = right_syntax texts why k right s in (inl (r.0, is ∙ ap Refused r.1), silent);
+  rule = λ k n s. let r = right_rule texts why k n right s in (inl (r.0, r.1, is ∙ ap Refused r.2), silent);
+  join_fails = λ w s. (inl (is ∙ ap Refused (right_join texts why w right s)), silent);
+  unbuilt = λ p a none. let r = right_accepted texts why p right a in (inl (is ∙ ap Refused r.0), silent);
+  machine = λ p a f s. let r = right_accepted texts why p right a in absurd (r.1 f s);
+  source = λ p a f s. let r = right_accepted texts why p right a in absurd (r.1 f s);
 }
-  where
-    too_short : (f : Func) → IsSmallText text f → ⊥
-    too_short f s = let short = s.short in omega arith
 
-text_answers : (name text : List ℕ) (most : ℕ) (o : Outside) (end : End) → length text ≤ 262144 → EndsText text most o.old o.new o.writes_before o.writes_now end → TextAnswers name text most o end
-text_answers name text most o end within (refused none is same) = record {
-  large = λ h. absurd (omega arith);
-  refused = λ h no_. (inl is, silent_same o.old o.new same);
-  machine = λ f s mem starts stop output here. absurd (none f s);
-  source = λ f s. absurd (none f s);
-}
-text_answers name text most o end within (unread is same) = text_excused name text most o end within (inl is) (silent_same o.old o.new same)
-text_answers name text most o end within (ran code is ends) = record {
-  large = λ h. absurd (omega arith);
-  refused = λ h none. absurd (none is.main is.small);
-  machine = λ f s. machine_answers f most o end (code_ends f s);
-  source = λ f s. source_answers f most o end (length text) (main_taken text f s) (code_ends f s);
-}
-  where
-    code_ends : (f : Func) → IsSmallText text f → EndsCode (bytes_of f) most o.old o.new o.writes_before o.writes_now end
-    code_ends f s = rw (is.code_is ∙ ap bytes_of (one_main text is.main f is.small s)) at ends
+may_stop : (texts : List (List ℕ)) (o : Outside) (k : h.Halt) → Runs texts → MayEnd texts o (end_of k)
+may_stop texts o (halt.Exited s) runs = runs
+may_stop texts o (halt.Raised g) runs = runs
+may_stop texts o halt.Spent runs = runs
+
+may_code : (texts : List (List ℕ)) (o : Outside) (code : List ℕ) (most : ℕ) (end : End) → Runs texts → EndsCode code most o.old o.new o.writes_before o.writes_now end → MayEnd texts o end
+may_code texts o code most end runs (stopped m k initial stops is) = rw is (may_stop texts o k runs)
+may_code texts o code most end runs (broken m initial breaks is rose) = rw is rose
+may_code texts o code most end runs (wanting is same) = rw is tt
+
+module _ (texts : List (List ℕ)) (most : ℕ) (o : Outside) (end : End) (q : Program) (b : IsAccepted texts q) (code : List ℕ) (is : IsCode texts code) where
+  module _ (ends : EndsCode code most o.old o.new o.writes_before o.writes_now end) where
+    code_ends : (f : Func) → IsSmall texts f → EndsCode (bytes_of f) most o.old o.new o.writes_before o.writes_now end
+    code_ends f s = rw (is.code_is ∙ ap bytes_of (one_main texts is.main f is.small s)) at ends
+
+    program_source : (p : Program) → IsAccepted texts p → (f : Func) → (s : IsSmall texts f) → SourceAnswers p (length s.text) most o end
+    program_source p a f s = rw (one_program texts p f a s) (source_answers f most o end (length s.text) (main_taken s.text f s.small) (code_ends f s))
+
+    texts_ran : TextsAnswer texts most o end
+    texts_ran = record {
+      only = may_code texts o code most end ((q, b), (is.main, is.small)) ends;
+      syntax = λ k s. absurd (accepted_syntax texts q k b s);
+      rule = λ k n s. absurd (accepted_rule texts q k n b s);
+      join_fails = λ w s. absurd (accepted_join texts q w b s);
+      unbuilt = λ p a none. absurd (none is.main is.small);
+      machine = λ p a f s. machine_answers f most o end (code_ends f s);
+      source = program_source;
+    }
+
+texts_answer : (texts : List (List ℕ)) (most : ℕ) (o : Outside) (end : End) → EndsTexts texts most o.old o.new o.writes_before o.writes_now end → TextsAnswer texts most o end
+texts_answer texts most o end (refused why right is same) = texts_refused texts most o end why right is (silent_same o.old o.new same)
+texts_answer texts most o end (unread is same) = texts_excused texts most o end (inl is) (silent_same o.old o.new same)
+texts_answer texts most o end (ran p a code is ends) = texts_ran texts most o end p a code is ends
 
 -- ---- files
 
-may_text : (name : List ℕ) (o : Outside) (text : List ℕ) (most : ℕ) (end : End) → EndsText text most o.old o.new o.writes_before o.writes_now end → MayEnd name o end
-may_text name o text most end (refused none is same) = rw is tt
-may_text name o text most end (unread is same) = rw is tt
-may_text name o text most end (ran code c (stopped m k initial stops is)) = rw is (may_stop k)
+pub texts_answered : (names : List Name) (most : ℕ) (o : Outside) (end : End) (texts : Vec (Vec ℕ Global) Global) → ReadsTexts o.held names (Ok texts)
+    → EndsTexts (texts_of texts.items) most o.old o.new o.writes_before o.writes_now end → FilesAnswer names most o.held o end
+texts_answered names most o end texts reads ends = by_held o.held reads
   where
-    may_stop : (k : h.Halt) → MayEnd name o (end_of k)
-    may_stop (halt.Exited s) = tt
-    may_stop (halt.Raised g) = tt
-    may_stop halt.Spent = tt
-may_text name o text most end (ran code c (broken m initial breaks is rose)) = rw is rose
-may_text name o text most end (ran code c (wanting is same)) = rw is tt
+    by_held : (held : Option Held) → ReadsTexts held names (Ok texts) → FilesAnswer names most held o end
+    by_held None reads = (Texts (texts_of texts.items), reads, texts_answer (texts_of texts.items) most o end ends)
+    by_held (Some held) reads = rw reads (texts_answer (texts_of texts.items) most o end ends)
 
--- the words that ask for a file
-asked_answers : (words : List (List ℕ)) (a : Request) (o : Outside) (end : End) → asked words ≡ Some a → FilesAnswer a.file a.most o.held o end → Answers words o end
-asked_answers words a o end is answer = rw is answer
+reading_excused : (r : Reading) (most : ℕ) (o : Outside) (end : End) → IsExcused o end → IsSilent o → ReadingAnswers r most o end
+reading_excused (Texts texts) most o end excused silent = texts_excused texts most o end excused silent
+reading_excused (Lacks name) most o end excused silent = (inr excused, silent)
+reading_excused (Exceeds name) most o end excused silent = (inr excused, silent)
+
+-- some reading of names
+some_reading : (names : List Name) → MayRead names (Texts (map (λ name. []) names))
+some_reading names = (length-map names (λ name. []), All-map (λ text. length text ≤ 262144) (λ name. []) names (λ k d below. omega arith))
+
+files_excused : (names : List Name) (most : ℕ) (held : Option Held) (o : Outside) (end : End) → IsExcused o end → IsSilent o → FilesAnswer names most held o end
+files_excused names most None o end excused silent = (Texts (map (λ name. []) names), some_reading names, texts_excused (map (λ name. []) names) most o end excused silent)
+files_excused names most (Some held) o end excused silent = reading_excused (reading held names) most o end excused silent
+
+module _ (names : List Name) (most : ℕ) (o : Outside) (silent : IsSilent o) where
+  by_reading : (held : Option Held) (r : Reading) (end : End) → IsReading held names r → ReadingAnswers r most o end → FilesAnswer names most held o end
+  by_reading None r end is answers = (r, is, answers)
+  by_reading (Some held) r end is answers = rw is answers
+
+  pub unread_answered : (end : End) → ReadsTexts o.held names (Err end) → (end ≡ ReadFault → Rose o.reads_before o.reads_now) → FilesAnswer names most o.held o end
+  unread_answered (Ran s) reads rose = absurd reads
+  unread_answered (Signalled g) reads rose = absurd reads
+  unread_answered Session reads rose = absurd reads
+  unread_answered Built reads rose = absurd reads
+  unread_answered Usage reads rose = absurd reads
+  unread_answered (Absent name) reads rose = by_reading o.held (Lacks name) (Absent name) reads (inl refl, silent)
+  unread_answered (TooLarge name) reads rose = by_reading o.held (Exceeds name) (TooLarge name) reads (inl refl, silent)
+  unread_answered (Refused why) reads rose = absurd reads
+  unread_answered ReadFault reads rose = files_excused names most o.held o ReadFault (inr (inl (refl, rose refl))) silent
+  unread_answered WriteFault reads rose = absurd reads
+  unread_answered Budget reads rose = absurd reads
+  unread_answered Memory reads rose = files_excused names most o.held o Memory (inl refl) silent
+
+-- ---- words
+
+pub asked_answers : (words : List (List ℕ)) (names : List Name) (most : ℕ) (o : Outside) (end : End) → asked words ≡ Some (asked_for names most) → FilesAnswer names most o.held o end → Answers words o end
+asked_answers words names most o end is answer = rw is answer
 
 pub usage_answers : (words : List (List ℕ)) (o : Outside) (end : End) → asked words ≡ None → end ≡ Usage → IsSilent o → Answers words o end
-usage_answers words o end none is silent = rw none (is, silent)
+usage_answers words o end none is silent = rw none (inl is, silent)
 
--- a front of a text that is shorter than what was asked for is the text
-front_is : (n : ℕ) (text front : List ℕ) → front ≡ take (n + 1) text → length front ≤ n → front ≡ text
-front_is n text front is short =
-    let len = ap length is ∙ length-take (n + 1) text in
-    is ∙ take_all (n + 1) text (omega arith)
-
-front_long : (n : ℕ) (text front : List ℕ) → front ≡ take (n + 1) text → n < length front → n < length text
-front_long n text front is long = let len = ap length is ∙ length-take (n + 1) text in omega arith
-
-large_file : (name : List ℕ) (most : ℕ) (held : Option (List ℕ)) (v : Vec ℕ Global) (o : Outside) (end : End) → ReadsHeld held 262145 (Ok v) → 262144 < length v.items → (end ≡ TooLarge name) ⊎ (end ≡ Memory) → IsSilent o
-    → FileAnswers name most held o end
-large_file name most None v o end reads long is silent = absurd (let e : Ok v ≡ Err fe.Absent = reads in cc)
-large_file name most (Some text) v o end reads long is silent =
-    text_large name text most o end (front_long 262144 text v.items reads long) (elim is [ inl e ↦ inl e | inr e ↦ inr (inl e) ]) silent
-
-pub large_answers : (words : List (List ℕ)) (a : Request) (o : Outside) (v : Vec ℕ Global) (end : End) → asked words ≡ Some a → ReadsFile o.held a.file 262145 (Ok v) → 262144 < length v.items
-    → (end ≡ TooLarge a.file) ⊎ (end ≡ Memory) → IsSilent o → Answers words o end
-large_answers words a o v end is reads long ends silent = asked_answers words a o end is (by_held o.held reads)
+-- want of memory before it is known what the words ask for
+pub memory_answers : (words : List (List ℕ)) (o : Outside) (end : End) → end ≡ Memory → IsSilent o → Answers words o end
+memory_answers words o end is silent = by_words (asked words)
   where
-    may : (end ≡ TooLarge a.file) ⊎ (end ≡ Memory) → MayEnd a.file o end
-    may (inl e) = rw e refl
-    may (inr e) = rw e tt
-
-    by_held : (held : Option Held) → ReadsFile held a.file 262145 (Ok v) → FilesAnswer a.file a.most held o end
-    by_held None reads = may ends
-    by_held (Some held) reads = large_file a.file a.most (held a.file) v o end reads long ends silent
-
-program_file : (name : List ℕ) (most : ℕ) (held : Option (List ℕ)) (v : Vec ℕ Global) (o : Outside) (end : End) → ReadsHeld held 262145 (Ok v) → length v.items ≤ 262144
-    → EndsText v.items most o.old o.new o.writes_before o.writes_now end → FileAnswers name most held o end
-program_file name most None v o end reads short ends = absurd (let e : Ok v ≡ Err fe.Absent = reads in cc)
-program_file name most (Some text) v o end reads short ends =
-    let same = front_is 262144 text v.items reads short in
-    text_answers name text most o end (rw same at short) (rw same at ends)
-
-pub program_answers : (words : List (List ℕ)) (a : Request) (o : Outside) (v : Vec ℕ Global) (end : End) → asked words ≡ Some a → ReadsFile o.held a.file 262145 (Ok v) → length v.items ≤ 262144
-    → EndsText v.items a.most o.old o.new o.writes_before o.writes_now end → Answers words o end
-program_answers words a o v end is reads short ends = asked_answers words a o end is (by_held o.held reads)
-  where
-    by_held : (held : Option Held) → ReadsFile held a.file 262145 (Ok v) → FilesAnswer a.file a.most held o end
-    by_held None reads = may_text a.file o v.items a.most end ends
-    by_held (Some held) reads = program_file a.file a.most (held a.file) v o end reads short ends
-
-absent_file : (name : List ℕ) (most : ℕ) (held : Option (List ℕ)) (o : Outside) (end : End) → ReadsHeld held 262145 (Err fe.Absent) → (end ≡ Absent name) ⊎ (end ≡ Memory) → IsSilent o → FileAnswers name most held o end
-absent_file name most None o end reads is silent = (is, silent)
-absent_file name most (Some text) o end reads is silent = absurd (reads refl)
-
-pub absent_answers : (words : List (List ℕ)) (a : Request) (o : Outside) (end : End) → asked words ≡ Some a → ReadsFile o.held a.file 262145 (Err fe.Absent) → (end ≡ Absent a.file) ⊎ (end ≡ Memory) → IsSilent o → Answers words o end
-absent_answers words a o end is reads ends silent = asked_answers words a o end is (by_held o.held reads)
-  where
-    may : (end ≡ Absent a.file) ⊎ (end ≡ Memory) → MayEnd a.file o end
-    may (inl e) = rw e refl
-    may (inr e) = rw e tt
-
-    by_held : (held : Option Held) → ReadsFile held a.file 262145 (Err fe.Absent) → FilesAnswer a.file a.most held o end
-    by_held None reads = may ends
-    by_held (Some held) reads = absent_file a.file a.most (held a.file) o end reads ends silent
-
-unread_file : (name : List ℕ) (most : ℕ) (held : Option (List ℕ)) (e : FileErr) (o : Outside) (end : End) → (e ≡ fe.Absent → ⊥) → ReadsHeld held 262145 (Err e) → IsExcused o end → IsSilent o → FileAnswers name most held o end
-unread_file name most None e o end other reads excused silent = absurd (other (let q : Err e ≡ Err fe.Absent = reads in cc))
-unread_file name most (Some text) e o end other reads excused silent = any_excused name text most o end excused silent
-  where
-    any_excused : (name text : List ℕ) (most : ℕ) (o : Outside) (end : End) → IsExcused o end → IsSilent o → TextAnswers name text most o end
-    any_excused name text most o end excused silent = elim (cases_lt 262144 (length text)) [
-      | inl long ↦ text_large name text most o end long (inr excused) silent
-      | inr short ↦ text_excused name text most o end short excused silent
-    ]
-
-pub unread_answers : (words : List (List ℕ)) (a : Request) (o : Outside) (e : FileErr) (end : End) → asked words ≡ Some a → (e ≡ fe.Absent → ⊥) → ReadsFile o.held a.file 262145 (Err e) → IsExcused o end → MayEnd a.file o end → IsSilent o
-    → Answers words o end
-unread_answers words a o e end is other reads excused may silent = asked_answers words a o end is (by_held o.held reads)
-  where
-    by_held : (held : Option Held) → ReadsFile held a.file 262145 (Err e) → FilesAnswer a.file a.most held o end
-    by_held None reads = may
-    by_held (Some held) reads = unread_file a.file a.most (held a.file) e o end other reads excused silent
+    by_words : (a : Option Request) → WordsAnswer a o end
+    by_words None = (inr is, silent)
+    by_words (Some a) = files_excused a.files a.most o.held o end (inl is) silent
 
 -- ---- an end with a name
 
@@ -281,34 +269,38 @@ stop_unnamed (halt.Raised g) named = named
 stop_unnamed halt.Spent named = named
 
 -- want of memory may stand for an end with a name, where nothing was written
-memory_source : (f : Func) (bytes most : ℕ) (o : Outside) (end : End) → IsNamed end → SourceAnswers f bytes most o end → SourceAnswers f bytes most o Memory
-memory_source f bytes most o end named a = record {
+memory_source : (p : Program) (bytes most : ℕ) (o : Outside) (end : End) → IsNamed end → SourceAnswers p bytes most o end → SourceAnswers p bytes most o Memory
+memory_source p bytes most o end named a = record {
   ends = λ n status s e. elim (a.ends n status s e) [ inl x ↦ absurd (not_with o (Ran status) s.output end named (λ z. z) x) | inr x ↦ absurd (not_budget end named x.0) ];
   budget_is_enough = λ n status s e much. absurd (not_with o (Ran status) s.output end named (λ z. z) (a.budget_is_enough n status s e much));
   goes_on = λ forever. let g = a.goes_on forever in elim (g.0) [ inl x ↦ absurd (not_budget end named x) | inr x ↦ absurd (not_excused o end named x) ];
 }
 
-memory_text : (name text : List ℕ) (most : ℕ) (o : Outside) (end : End) → IsNamed end → TextAnswers name text most o end → TextAnswers name text most o Memory
-memory_text name text most o end named a = record {
-  large = λ long. (inr (inl refl), (a.large long).1);
-  refused = λ short none. (inr (inl refl), (a.refused short none).1);
-  machine = λ f s mem starts stop output here. absurd (not_with o (end_of stop) output end named (stop_unnamed stop) (a.machine f s mem starts stop output here));
-  source = λ f s. memory_source f (length text) most o end named (a.source f s);
+memory_texts : (texts : List (List ℕ)) (most : ℕ) (o : Outside) (end : End) → IsNamed end → TextsAnswer texts most o end → TextsAnswer texts most o Memory
+memory_texts texts most o end named a = record {
+  only = tt;
+  syntax = λ k s. let x = a.syntax k s in (inr (inl refl), x.1);
+  rule = λ k n s. let x = a.rule k n s in (inr (inl refl), x.1);
+  join_fails = λ w s. let x = a.join_fails w s in (inr (inl refl), x.1);
+  unbuilt = λ p b none. let x = a.unbuilt p b none in (inr (inl refl), x.1);
+  machine = λ p b f s mem starts stop output here. absurd (not_with o (end_of stop) output end named (stop_unnamed stop) (a.machine p b f s mem starts stop output here));
+  source = λ p b f s. memory_source p (length s.text) most o end named (a.source p b f s);
 }
 
-memory_file : (name : List ℕ) (most : ℕ) (held : Option (List ℕ)) (o : Outside) (end : End) → IsNamed end → FileAnswers name most held o end → FileAnswers name most held o Memory
-memory_file name most None o end named a = (inr refl, a.1)
-memory_file name most (Some text) o end named a = memory_text name text most o end named a
+memory_reading : (r : Reading) (most : ℕ) (o : Outside) (end : End) → IsNamed end → ReadingAnswers r most o end → ReadingAnswers r most o Memory
+memory_reading (Texts texts) most o end named a = memory_texts texts most o end named a
+memory_reading (Lacks name) most o end named a = (inr (inl refl), a.1)
+memory_reading (Exceeds name) most o end named a = (inr (inl refl), a.1)
 
-memory_files : (name : List ℕ) (most : ℕ) (held : Option Held) (o : Outside) (end : End) → IsNamed end → FilesAnswer name most held o end → FilesAnswer name most held o Memory
-memory_files name most None o end named a = tt
-memory_files name most (Some held) o end named a = memory_file name most (held name) o end named a
-
-memory_words : (a : Option Request) (o : Outside) (end : End) → IsNamed end → WordsAnswer a o end → WordsAnswer a o Memory
-memory_words None o end named is = absurd (let u : IsNamed Usage = rw (is.0) at named in u)
-memory_words (Some a) o end named is = memory_files a.file a.most o.held o end named is
+memory_files : (names : List Name) (most : ℕ) (held : Option Held) (o : Outside) (end : End) → IsNamed end → FilesAnswer names most held o end → FilesAnswer names most held o Memory
+memory_files names most None o end named a = (a.0, a.1, memory_reading a.0 most o end named a.2)
+memory_files names most (Some held) o end named a = memory_reading (reading held names) most o end named a
 
 -- the end that is told
-pub told_answers : (words : List (List ℕ)) (o : Outside) (end told : End) → Answers words o end → IsOrMemory end told → Answers words o told
-told_answers words o end told answers (inl same) = rw same answers
-told_answers words o end told answers (inr is) = rw (is.0) (memory_words (asked words) o end is.1 answers)
+pub told_answers : (names : List Name) (most : ℕ) (o : Outside) (end told : End) → FilesAnswer names most o.held o end → IsOrMemory end told → FilesAnswer names most o.held o told
+told_answers names most o end told answers (inl same) = rw same answers
+told_answers names most o end told answers (inr is) = rw (is.0) (memory_files names most o.held o end is.1 answers)
+
+pub only_memory : (told : End) → IsOrMemory Memory told → told ≡ Memory
+only_memory told (inl same) = same
+only_memory told (inr is) = is.0

@@ -1,10 +1,10 @@
 -- A process over a memory that has executed nothing stops in one way, and what comes before is a front of its output.
-use Rattle.std.proofs.Common.{◌≡◌, ℕ, suc, ◌+◌, ◌-◌, ◌<◌, ◌≤◌, List, [], ◌∷◌, ◌++◌, length, take, inl, inr, ◌⊎◌, refl, sym, ap, ◌∙◌, arith}
-use Rattle.std.specs.Prelude.{Option, slice_index}
+use Rattle.std.proofs.Common.{◌≡◌, ℕ, ◌+◌, ◌-◌, ◌<◌, ◌≤◌, List, [], ◌∷◌, length, take, inl, inr, ◌⊎◌, refl, sym, ap, ◌∙◌, arith}
+use Rattle.std.specs.Prelude.{Option}
 use Rattle.std.proofs.lemmas.List.{take-append-le, ext_get_or}
 use Rattle.std.specs.Io.KnownBytes.{Appends}
 use Rattle.mach_mem.specs.Space.{Space, IsInitial}
-use Rattle.gen_expr.specs.Runs.{Process, Progress, Goes, Exits, Raises, advanced, and_on, ran}
+use Rattle.gen_expr.specs.Runs.{Process, Goes, Exits, Raises, and_on, ran}
 use Rattle.gen_expr.specs.Laws.{Exited}
 use Rattle.svr3.specs.declared.process.Halt.{Halt}
 use Rattle.svr3.specs.declared.process.Halt.TheVariants as halt

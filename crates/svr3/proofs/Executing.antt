@@ -4,11 +4,10 @@ use Rattle.std.specs.Prelude.{Option}
 use Rattle.mach_mem.specs.Space.{Space}
 use Rattle.mach_exec.specs.declared.Cpu.{Cpu}
 use Rattle.gen_expr.specs.Runs.{Process, Progress, Goes, Exits, Raises, advanced, and_on, ran}
-use Rattle.gen_expr.specs.Laws.{Exited}
 use Rattle.svr3.specs.declared.process.Halt.{Halt}
 use Rattle.svr3.specs.declared.process.Halt.TheVariants as halt
 use Rattle.svr3.specs.Output.{Moves, GainsFront}
-use Rattle.svr3.specs.Process.{process, written, Raised, Spent, Stops, StopsBefore, Breaks}
+use Rattle.svr3.specs.Process.{process, written, Stops, StopsBefore, Breaks}
 use Rattle.svr3.proofs.Sending.{moves-nil, moves-trans, moves_front_more}
 use Rattle.svr3.proofs.Calling.{exit_last, raise_last}
 

@@ -1,5 +1,4 @@
 pub mod Digits
-pub mod Worded
 pub mod Sending
 pub mod Calling
 pub mod Executing
@@ -10,8 +9,14 @@ pub mod SmallTyped
 pub mod SmallUnit
 pub mod Shaped
 pub mod Tokened
+pub mod FewTokens
 pub mod UnitFits
 pub mod MainFits
+pub mod Wording
+pub mod Firsts
+pub mod Fronting
+pub mod Causes
 pub mod Compiling
+pub mod Filing
 pub mod Ending
 pub mod Answering

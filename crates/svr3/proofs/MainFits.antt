@@ -1,21 +1,16 @@
 -- The main of a text of the small form is one that the code maker takes.
-use Rattle.std.proofs.Common.{◌≡◌, ℕ, zero, suc, ◌+◌, ◌*◌, ◌<◌, ◌≤◌, List, [], ◌∷◌, ◌++◌, length, map, refl, sym, ap, ◌∙◌, arith, length-append, append-nil, subst}
-use Rattle.std.specs.Prelude.{Option, Some, None, Bool, true, false, ◌&&◌, option_map}
+use Rattle.std.proofs.Common.{◌≡◌, ℕ, ◌+◌, ◌≤◌, List, [], ◌∷◌, ◌++◌, length, map, refl, sym, ap, ◌∙◌, arith, append-nil, subst}
+use Rattle.std.specs.Prelude.{Option, Some, None, true, ◌&&◌, option_map}
 use Rattle.std.specs.List.{list_all, flat_map}
-use Rattle.c_type.specs.Names.{Name, pick}
-use Rattle.c_type.specs.Tokens.{Token, Tok}
-use Rattle.c_type.specs.Pieces.{Piece, piece_bytes, token_of}
-use Rattle.c_type.specs.Falls.{Falls, ArePieces, spelled, tokens_from, with_token}
-use Rattle.c_type.specs.Bytes.{newlines}
-use Rattle.c_lex.proofs.Growing.{shorter}
+use Rattle.c_type.specs.Tokens.{Token}
 use Rattle.c_tree.specs.Words.{mark, open_brace, close_brace}
 use Rattle.c_tree.specs.TreeDecl as d
 use Rattle.c_tree.specs.TreeStmt as s
 use Rattle.c_tree.specs.TreeUnit as tu
 use Rattle.c_tree.specs.TStmt.{TStmts, locals}
 use Rattle.c_tree.specs.TUnit.{Func}
-use Rattle.c_tree.specs.Starts.{Start, at, starts_local, starts_stmts, starts_func}
-use Rattle.c_tree.specs.Bodies.{autos_local, autos_stmts, autos}
+use Rattle.c_tree.specs.Starts.{at, starts_stmts, starts_func}
+use Rattle.c_tree.specs.Bodies.{autos_local, autos}
 use Rattle.c_tree.specs.WrittenDecl.{plain_local, WrittenPar, plain_par}
 use Rattle.c_tree.specs.WrittenDeclr.{plain_declr, spell_declr}
 use Rattle.c_tree.specs.WrittenSpecs.{Parts, no_parts, more_parts, plain_specs, spell_specs}
@@ -30,29 +25,11 @@ use Rattle.c_tree.specs.Lasting.{lastings_of}
 use Rattle.c_tree.specs.Mentions.{in_local, in_stmts}
 use Rattle.gen_expr.specs.Mains.{AllInt}
 use Rattle.gen_expr.specs.Whole.{IsFormMain, IsSmallProgram}
-use Rattle.svr3.specs.SmallForm.{IsSmallText, small_main, only_main, main_in, body_in, main_with, is_body, is_main, is_line, is_plain, are_variables, are_few, names_in, decls_in, stmts_in, stmts_starts, unit_size, program_of}
+use Rattle.svr3.specs.SmallForm.{IsSmallText, small_main, main_in, body_in, main_with, is_body, is_main, is_line, is_plain, are_variables, are_few, names_in, stmts_in, stmts_starts, unit_size, program_of}
 use Rattle.svr3.proofs.Shaped.{none_some, mapped, picked, all_settled, plain_decls, numbered_append}
 use Rattle.svr3.proofs.Tokened.{both, few_on, stmts_fit}
 use Rattle.svr3.proofs.UnitFits.{main_passes, locals_pass, names_count, unit_count}
-
--- ---- a text has at least as many bytes as tokens
-
-piece_tokens : (l : ℕ) (o : Option Tok) (ts : List Token) → length (with_token l o ts) ≤ suc (length ts)
-piece_tokens l None ts = omega arith
-piece_tokens l (Some x) ts = omega arith
-
-tokens_short : (l : ℕ) (ps : List Piece) → ArePieces ps [] → length (tokens_from l ps) ≤ length (spelled ps [])
-tokens_short l [] are = omega arith
-tokens_short l (p ∷ ps) are =
-    let rest = tokens_short (l + newlines (piece_bytes p)) ps are.1 in
-    let one = piece_tokens l (token_of p) (tokens_from (l + newlines (piece_bytes p)) ps) in
-    let more = shorter (piece_bytes p ++ spelled ps []) (spelled ps []) (token_of p) (record { piece = p; is = are.0; bytes_are = refl; token_is = refl }) in
-    omega arith
-
-pub falls_short : (text : List ℕ) (ts : List Token) → Falls text ts → length ts ≤ length text
-falls_short text ts f =
-    let short = tokens_short 1 f.pieces f.are in
-    omega (arith, short, ap length f.bytes_are, ap length f.tokens_are)
+use Rattle.svr3.proofs.FewTokens.{falls_short}
 
 -- a unit has at most as many names and starts as tokens
 pub reads_short : (ts : List Token) (u : tu.Unit) → ReadsTokens ts u → unit_size u ≤ length ts

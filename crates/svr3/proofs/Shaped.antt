@@ -1,9 +1,9 @@
 -- The typed trees of the small form are what the code maker takes: parts that need no look at the tokens.
-use Rattle.std.proofs.Common.{◌≡◌, ℕ, zero, suc, ◌+◌, ◌<◌, ◌≤◌, List, [], ◌∷◌, ◌++◌, length, map, refl, sym, ap, ◌∙◌, arith, length-append}
-use Rattle.std.specs.Prelude.{Option, Some, None, Bool, true, false, option_map, position}
+use Rattle.std.proofs.Common.{◌≡◌, ℕ, suc, ◌+◌, List, [], ◌∷◌, ◌++◌, length, map, refl, ap, ◌∙◌, arith, length-append}
+use Rattle.std.specs.Prelude.{Option, Some, None, Bool, true, false, option_map}
 use Rattle.std.specs.List.{flat_map}
 use Rattle.std.proofs.lemmas.List.{length-map}
-use Rattle.c_type.specs.Names.{Name, pick, same_name}
+use Rattle.c_type.specs.Names.{Name, pick}
 use Rattle.c_type.specs.Types.{num}
 use Rattle.c_type.specs.declared.Kind.TheVariants.{Int}
 use Rattle.c_tree.specs.declared.TBinary.{TBinary}
@@ -17,14 +17,15 @@ use Rattle.c_tree.specs.TreeStmt as us
 use Rattle.c_tree.specs.TExpr.{Local, Outer, TExpr, name, int, convert, binary, assign, call, no_args, more_args, type_of}
 use Rattle.c_tree.specs.TStmt as st
 use Rattle.c_tree.specs.TStmt.{TStmt, TStmts, LocalDecl, locals, expr, while_, return_, block, no_stmts, more_stmts}
-use Rattle.c_tree.specs.Starts.{Start, starts_local, starts_stmt, starts_stmts, starts_func}
-use Rattle.c_tree.specs.Bodies.{Auto, autos_local, autos_stmt, autos_stmts, autos}
+use Rattle.c_tree.specs.Starts.{Start, starts_local, starts_stmt, starts_stmts}
+use Rattle.c_tree.specs.Bodies.{Auto, autos_local, autos_stmt, autos_stmts}
 use Rattle.c_tree.specs.Mentions.{Mention, in_expr, in_local, in_stmt, in_stmts}
 use Rattle.c_tree.specs.WrittenDeclr.{declared}
 use Rattle.gen_expr.specs.Small.{IsSmall, IsVariable, IsSum}
 use Rattle.gen_expr.specs.Forms.{AreThere, IsNumbered}
 use Rattle.gen_expr.specs.Mains.{AllInt, AllPlain}
-use Rattle.svr3.specs.SmallForm.{place_in, variable, number, putchar, sum_of, joined, sum_in, variable_in, is_putchar, argument_in, action_in, at_line, is_line, looped, returned, followed, assigned, called, stmt_in, stmts_in, stmt_starts, stmts_starts, object, locals_in, decls_in, names_in}
+use Rattle.svr3.specs.Different.{place_in}
+use Rattle.svr3.specs.SmallForm.{variable, number, putchar, sum_of, joined, sum_in, variable_in, is_putchar, argument_in, action_in, at_line, is_line, looped, returned, followed, assigned, called, stmt_in, stmts_in, stmt_starts, stmts_starts, object, locals_in, decls_in, names_in}
 use Rattle.svr3.proofs.SmallTrees.{place_below}
 
 pub none_some : {A : Type 0} (x : A) → None ≡ Some x → ⊥

@@ -1,6 +1,6 @@
 -- The typed trees of the small form, part by part.
 use Rattle.std.proofs.Common.{◌≡◌, ℕ, ◌+◌, ◌<◌, ◌≤◌, List, [], ◌∷◌, ◌++◌, get_or, zero, suc, length, drop, map, Vec, Box, Global, refl, sym, ap, ◌∙◌, arith}
-use Rattle.std.specs.Prelude.{Option, Some, None, position, option_map, Bool, true, false, ◌&&◌, Result, Ok, Err}
+use Rattle.std.specs.Prelude.{Option, Some, None, option_map, Bool, true, false, ◌&&◌, Result, Err}
 use Rattle.std.specs.List.{list_all}
 use Rattle.std.proofs.lemmas.List.{drop_all}
 use Rattle.std.proofs.lemmas.List.Quantifiers.{position-Some}
@@ -27,12 +27,12 @@ use Rattle.svr3.specs.declared.small_form.Fault.{Fault}
 use Rattle.svr3.specs.declared.small_form.Fault.TheVariants.{Unbuilt, Memory}
 use Rattle.c_tree.specs.TExpr as e
 use Rattle.c_tree.specs.TStmt as t
-use Rattle.c_tree.specs.TreeExpr as ue
 use Rattle.c_tree.specs.TreeStmt as us
 use Rattle.c_tree.specs.TreeStmt.{stmt_depth, stmts_depth, block_depth}
 use Rattle.c_tree.specs.TreeOf as u
 use Rattle.c_tree.specs.TypedOf as o
-use Rattle.svr3.specs.SmallForm.{place_in, argument_in, is_putchar, putchar, called, action_in, as_stmt, stmt_in, stmts_in, followed, stmt_starts, stmts_starts}
+use Rattle.svr3.specs.Different.{place_in}
+use Rattle.svr3.specs.SmallForm.{argument_in, is_putchar, putchar, called, action_in, as_stmt, stmt_in, stmts_in, followed, stmt_starts}
 
 -- the place of a name is a place of the list
 pub place_below : (ns : List Name) (x : Name) (i : ℕ) → place_in ns x ≡ Some i → i < length ns

@@ -1,10 +1,9 @@
 -- The typed main of a unit of the small form is the one that belongs to the unit by the typing rules: expressions and statements.
-use Rattle.std.proofs.Common.{◌≡◌, ℕ, zero, suc, ◌+◌, List, [], ◌∷◌, ◌++◌, length, map, refl, sym, ap, ◌∙◌, arith, append-nil, subst}
-use Rattle.std.specs.Prelude.{Option, Some, None, Bool, true, false, not, ◌&&◌, ◌||◌, option_map}
-use Rattle.std.specs.Str.{bytes_eq}
+use Rattle.std.proofs.Common.{◌≡◌, ℕ, ◌+◌, List, [], ◌∷◌, refl, sym, ap, ◌∙◌, arith, append-nil, subst}
+use Rattle.std.specs.Prelude.{Option, Some, None, Bool, true, false, ◌&&◌}
 use Rattle.std.proofs.lemmas.Slice.Eq.{bytes_eq-Decides}
-use Rattle.c_type.specs.Names.{Name, same_name, pick}
-use Rattle.c_type.specs.Types.{CType, num, fun, is_integer, same_type}
+use Rattle.c_type.specs.Names.{Name, pick}
+use Rattle.c_type.specs.Types.{num, fun, is_integer, same_type}
 use Rattle.c_type.specs.declared.Kind.TheVariants.{Int, UInt}
 use Rattle.c_tree.specs.declared.AssignOp.TheVariants as ao
 use Rattle.c_tree.specs.declared.BinaryOp.{BinaryOp}
@@ -13,17 +12,18 @@ use Rattle.c_tree.specs.declared.TBinary.{TBinary}
 use Rattle.c_tree.specs.declared.TBinary.TheVariants.{Add, Sub}
 use Rattle.c_tree.specs.TreeExpr as u
 use Rattle.c_tree.specs.TreeStmt as us
-use Rattle.c_tree.specs.TExpr.{Local, Outer, TExpr, TArgs, name, int, convert, binary, assign, call, no_args, more_args, type_of}
+use Rattle.c_tree.specs.TExpr.{Local, Outer, TExpr, name, int, convert, binary, assign, no_args, more_args, type_of}
 use Rattle.c_tree.specs.TStmt as st
 use Rattle.c_tree.specs.TStmt.{TStmt, TStmts}
 use Rattle.c_tree.specs.Context.{putchar_name}
 use Rattle.c_tree.specs.RuleTexts.{texts_in}
-use Rattle.c_tree.specs.RuleScope.{Judged, Is, onward, provided, Env, Thing, meaning_of, function_ref, past, met, started}
+use Rattle.c_tree.specs.RuleScope.{Is, onward, provided, Env, Thing, meaning_of, function_ref, past, met, started}
 use Rattle.c_tree.specs.RuleValues.{used, used_as, to_type, wide, widen, meeting, scalar, is_scalar, taken, value_for, are_integers}
 use Rattle.c_tree.specs.RuleExprs as r
 use Rattle.c_tree.specs.RuleTree.{IsExpr, IsCalled, AreArgs}
-use Rattle.c_tree.specs.RuleStmts.{Place, in_loop, enter, leave, IsStmt, AreStmts}
-use Rattle.svr3.specs.SmallForm.{place_in, variable, number, putchar, sum_of, sum_in, variable_in, is_putchar, argument_in, action_in, stmt_in, stmts_in, stmt_starts, stmts_starts}
+use Rattle.c_tree.specs.RuleStmts.{Place, in_loop, enter, IsStmt, AreStmts}
+use Rattle.svr3.specs.Different.{place_in}
+use Rattle.svr3.specs.SmallForm.{variable, number, putchar, sum_of, sum_in, variable_in, is_putchar, argument_in, action_in, stmt_in, stmts_in, stmt_starts, stmts_starts}
 use Rattle.svr3.proofs.Shaped.{none_some, some_is, mapped, picked, sum_parts, assignment_parts, call_parts, loop_parts, return_parts, done_parts, more_parts}
 
 -- variables of these names are in scope, by their places, and putchar is declared nowhere

@@ -1,14 +1,13 @@
 -- The typed main of a unit of the small form is the one that belongs to the unit by the typing rules: declarations and the unit.
-use Rattle.std.proofs.Common.{◌≡◌, ℕ, zero, suc, ◌+◌, ◌<◌, List, [], ◌∷◌, ◌++◌, length, map, refl, sym, ap, ◌∙◌, arith, append-nil, subst, get_or, length-append}
+use Rattle.std.proofs.Common.{◌≡◌, ℕ, zero, suc, ◌+◌, ◌<◌, List, [], ◌∷◌, ◌++◌, length, map, refl, sym, ap, ◌∙◌, arith, subst, get_or, length-append}
 use Rattle.std.specs.Prelude.{Option, Some, None, Bool, true, false, not, ◌&&◌, ◌||◌, option_map, Result, Ok, Err, IfOk, ⊤}
 use Rattle.std.specs.List.{list_all}
 use Rattle.std.proofs.lemmas.List.Quantifiers.{position-Some}
-use Rattle.std.specs.Str.{bytes_eq}
 use Rattle.std.proofs.lemmas.Cmp.{nat_list_eq_equiv}
 use Rattle.std.proofs.lemmas.Slice.Eq.{bytes_eq-Decides}
 use Rattle.std.proofs.lemmas.List.{length-map}
 use Rattle.c_type.specs.Names.{Name, same_name, pick, or_else}
-use Rattle.c_type.specs.Types.{CType, num, fun}
+use Rattle.c_type.specs.Types.{num, fun}
 use Rattle.c_type.specs.declared.Kind.TheVariants as k
 use Rattle.c_type.specs.declared.Kind.TheVariants.{Int}
 use Rattle.c_tree.specs.declared.Storage.{Storage}
@@ -24,14 +23,15 @@ use Rattle.c_tree.specs.TypedOf.{func_of}
 use Rattle.c_tree.specs.Context.{putchar_name}
 use Rattle.c_tree.specs.Run.{main_name}
 use Rattle.c_tree.specs.WrittenDeclr.{declared}
-use Rattle.c_tree.specs.RuleScope.{Env, Entry, Meaning, Thing, Function, in_scope, started, function_ref}
+use Rattle.c_tree.specs.RuleScope.{Env, Entry, Meaning, Thing, Function, in_scope, started}
 use Rattle.c_tree.specs.RuleStmts.{AreLocals, AreDecls}
 use Rattle.c_tree.specs.RuleTags.{in_file}
 use Rattle.c_tree.specs.RuleUnit.{IsTyped, at_first, at_body, in_body}
 use Rattle.svr3.specs.declared.small_form.Fault.{Fault}
 use Rattle.svr3.specs.Given.{Gives}
-use Rattle.svr3.specs.SmallForm.{place_in, is_int, is_bare, is_plain, names_in, object, locals_in, decls_in, stands_in, are_different, is_free, is_body, body_in, main_with, is_main, main_in, only_main, small_main, unit_of_main, stmts_in, stmts_starts, are_variables, is_line}
-use Rattle.svr3.proofs.Shaped.{none_some, some_is, mapped, picked}
+use Rattle.svr3.specs.Different.{place_in, stands_in, are_different}
+use Rattle.svr3.specs.SmallForm.{is_int, is_bare, is_plain, names_in, object, locals_in, decls_in, is_free, is_body, body_in, main_with, is_main, main_in, only_main, small_main, unit_of_main, stmts_in, stmts_starts, are_variables, is_line}
+use Rattle.svr3.proofs.Shaped.{none_some, mapped, picked}
 use Rattle.svr3.proofs.SmallTyped.{Holds, stmts_typed}
 
 sides : (x y : Name) → same_name x y ≡ same_name y x

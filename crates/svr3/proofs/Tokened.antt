@@ -1,28 +1,27 @@
 -- The tokens of a text of the small form bound the temporaries, the weight and the numbers of its main.
-use Rattle.std.proofs.Common.{◌≡◌, ℕ, zero, suc, ◌+◌, ◌-◌, ◌<◌, ◌≤◌, List, [], ◌∷◌, ◌++◌, length, map, inl, inr, refl, sym, ap, ◌∙◌, arith}
-use Rattle.std.specs.Prelude.{Option, Some, None, Bool, true, false, ◌&&◌, nat_le, option_map}
+use Rattle.std.proofs.Common.{◌≡◌, ℕ, suc, ◌+◌, ◌≤◌, List, [], ◌∷◌, length, refl, arith}
+use Rattle.std.specs.Prelude.{Option, Some, None, Bool, true, false, ◌&&◌, nat_le}
 use Rattle.std.proofs.lemmas.Bool.{leb-true}
-use Rattle.c_type.specs.Names.{Name, pick}
+use Rattle.c_type.specs.Names.{Name}
 use Rattle.c_type.specs.Tokens.{Token, Tok}
 use Rattle.c_type.specs.Tokens as k
 use Rattle.c_type.specs.Types.{num}
 use Rattle.c_type.specs.declared.Kind.TheVariants.{Int}
-use Rattle.c_tree.specs.Words.{tok, mark, word, open_round, close_round, comma_mark, semicolon, binary_mark, binary_level}
+use Rattle.c_tree.specs.Words.{tok, mark, word, open_round, close_round, semicolon, binary_mark}
 use Rattle.c_tree.specs.declared.TBinary.{TBinary}
 use Rattle.c_tree.specs.declared.AssignOp.TheVariants as ao
-use Rattle.c_tree.specs.declared.BinaryOp.{BinaryOp}
 use Rattle.c_tree.specs.declared.BinaryOp.TheVariants as op
-use Rattle.c_tree.specs.TreeExpr as u
-use Rattle.c_tree.specs.TExpr.{Local, Outer, TExpr, name, int, binary, assign, call, no_args, more_args}
-use Rattle.c_tree.specs.TStmt.{TStmt, TStmts, expr, while_, return_, block, no_stmts, more_stmts}
+use Rattle.c_tree.specs.TExpr.{Local, TExpr, name, int, binary, assign, call, no_args, more_args}
+use Rattle.c_tree.specs.TStmt.{TStmt, TStmts, block, no_stmts}
 use Rattle.c_tree.specs.WrittenExpr as w
 use Rattle.c_tree.specs.WrittenExpr.{Written, Args, Others, plain, plains, spell, spell_args, level, IsLevelled, first}
 use Rattle.c_tree.specs.WrittenStmt as z
 use Rattle.c_tree.specs.WrittenStmt.{WrittenStmt, WrittenStmts, plain_stmt, plain_stmts, spell_stmt, spell_stmts, IsStmt, AreStmts}
 use Rattle.gen_expr.specs.Code.{temps}
-use Rattle.gen_expr.specs.Forms.{IsForm, IsFormStmt, IsFormStmts, weight, stmt_weight, stmts_weight}
-use Rattle.svr3.specs.SmallForm.{round_open, are_few, variable, place_in, number, sum_of, sum_in, variable_in, is_putchar, argument_in, action_in, stmt_in, stmts_in, putchar}
-use Rattle.svr3.proofs.Shaped.{none_some, some_is, mapped, picked, sum_parts, sum_term, variable_in_term, assignment_parts, call_parts, argument_term, action_term, loop_parts, return_parts, done_parts, more_parts}
+use Rattle.gen_expr.specs.Forms.{IsFormStmt, IsFormStmts, weight, stmt_weight, stmts_weight}
+use Rattle.svr3.specs.Different.{place_in}
+use Rattle.svr3.specs.SmallForm.{round_open, are_few, variable, number, sum_in, is_putchar, argument_in, action_in, stmt_in, stmts_in, putchar}
+use Rattle.svr3.proofs.Shaped.{none_some, some_is, mapped, picked, sum_parts, sum_term, variable_in_term, assignment_parts, call_parts, action_term, loop_parts, return_parts, done_parts, more_parts}
 
 pub both : (a b : Bool) → (a && b) ≡ true → (a ≡ true) × (b ≡ true)
 both true b e = (refl, e)

@@ -1,22 +1,17 @@
 -- A unit of the small form: the tokens bound its names, its starts and its main.
-use Rattle.std.proofs.Common.{◌≡◌, ℕ, zero, suc, ◌+◌, ◌<◌, ◌≤◌, List, [], ◌∷◌, ◌++◌, length, map, refl, sym, ap, ◌∙◌, arith, length-append}
-use Rattle.std.specs.Prelude.{Option, Some, None, Bool, true, false, ◌&&◌, option_map}
-use Rattle.std.specs.List.{list_all, flat_map}
+use Rattle.std.proofs.Common.{◌≡◌, ℕ, suc, ◌+◌, ◌≤◌, List, [], ◌∷◌, length, map, refl, ap, ◌∙◌, arith, length-append}
+use Rattle.std.specs.Prelude.{Option, Some, None, Bool, true, false}
+use Rattle.std.specs.List.{list_all}
 use Rattle.std.proofs.lemmas.List.{length-map}
-use Rattle.c_type.specs.Names.{Name, pick}
+use Rattle.c_type.specs.Names.{Name}
 use Rattle.c_type.specs.Tokens.{Token}
 use Rattle.c_type.specs.Tokens as k
-use Rattle.c_tree.specs.Words.{Separated, After, listed, members_of, spell_others, spell_separated, tok, mark, word, open_round, close_round, open_square, close_square, open_brace, close_brace, comma_mark, semicolon, colon, storage_word, type_word, tag_word}
+use Rattle.c_tree.specs.Words.{After, listed, members_of, spell_others, spell_separated, tok, mark, word, open_round, close_round, close_brace, comma_mark, semicolon, storage_word, type_word, tag_word}
 use Rattle.c_tree.specs.TreeDecl as d
-use Rattle.c_tree.specs.TreeStmt as s
-use Rattle.c_tree.specs.TreeUnit as tu
-use Rattle.c_tree.specs.TStmt.{TStmts}
-use Rattle.c_tree.specs.TUnit.{Func}
-use Rattle.c_tree.specs.WrittenType.{TypePart, word_part, tag_part, name_part}
+use Rattle.c_tree.specs.WrittenType.{word_part, tag_part, name_part}
 use Rattle.c_tree.specs.WrittenExpr as w
 use Rattle.c_tree.specs.WrittenDeclr as wd
 use Rattle.c_tree.specs.WrittenDeclr.{WrittenDeclr, WrittenItem, plain_declr, plain_names, plain_if, plain_given, plain_item, spell_declr, spell_if, declr_line, declared}
-use Rattle.c_tree.specs.WrittenSpecs.{no_parts, more_parts}
 use Rattle.c_tree.specs.WrittenDecl as wl
 use Rattle.c_tree.specs.WrittenDecl.{LocalPart, WrittenLocal, plain_local, spell_local, spell_local_parts}
 use Rattle.c_tree.specs.WrittenStmt as z
@@ -29,7 +24,7 @@ use Rattle.c_decl.proofs.InitAgain as ia
 use Rattle.c_decl.proofs.SpecsAgain.{local_parts_longer, specs_longer}
 use Rattle.c_decl.proofs.DeclAgain.{local_longer, pars_longer}
 use Rattle.c_parse.proofs.StmtAgain.{stmts_longer}
-use Rattle.svr3.specs.SmallForm.{round_open, are_few, is_bare, is_plain, is_int, is_main, names_in, stmt_starts, stmts_starts, body_size, ext_size, unit_size}
+use Rattle.svr3.specs.SmallForm.{are_few, is_bare, is_plain, is_int, is_main, names_in, stmt_starts, stmts_starts, body_size, ext_size, unit_size}
 use Rattle.svr3.proofs.Tokened.{both, few_on}
 
 -- ---- declarators

@@ -1,24 +1,29 @@
--- How a call ends, with which status and which line, and what of.
-use Rattle.std.specs.Prelude.{ℕ, ◌≡◌, ◌≤◌, ◌<◌, ◌⊎◌, ◌+◌, ◌*◌, ◌%◌, List, [], ◌∷◌, ◌++◌, length, take, Option, Some, None, codes, ⊤}
+-- How a call ends, with which status, and what of.
+use Rattle.std.specs.Prelude.{ℕ, ◌≡◌, ◌<◌, ◌≤◌, ◌⊎◌, ◌+◌, ◌*◌, ◌%◌, List, [], length, take, Option, Some, None, ⊤}
 use Rattle.std.specs.Io.KnownBytes.{Appends}
 use Rattle.mach_mem.specs.Space.{Space, IsInitial}
-use Rattle.c_tree.specs.TUnit.{Func}
-use Rattle.c_tree.specs.Context.{linked}
+use Rattle.c_type.specs.Names.{Name}
+use Rattle.c_tree.specs.TUnit.{Func, Program}
 use Rattle.c_tree.specs.Values.{Ended, Stopped}
 use Rattle.c_tree.specs.State.{State, Halt, no_changes}
 use Rattle.c_tree.specs.Run.{run}
-use Rattle.gen_expr.specs.Whole.{started, text_of}
+use Rattle.c_tree.specs.JoinChecks as join
+use Rattle.c_whole.specs.declared.JoinErr.{JoinErr}
+use Rattle.c_whole.specs.declared.JoinErr.TheVariants as err
+use Rattle.gen_expr.specs.Whole.{started}
 use Rattle.outside.specs.Causes.{Rose}
 use Rattle.outside.specs.Told.{Held}
 use Rattle.svr3.specs.Command.{Request, asked}
+use Rattle.svr3.specs.Compiled.{bytes_of}
+use Rattle.svr3.specs.Front.{IsAccepted, IsSyntax, IsRule, IsJoin, IsSmall, Runs, IsRight}
 use Rattle.svr3.specs.Output.{GainsFront}
 use Rattle.svr3.specs.Process.{Stops}
-use Rattle.svr3.specs.SmallForm.{IsSmallText, program_of}
+use Rattle.svr3.specs.Reading.{Reading, Texts, Lacks, Exceeds, reading, IsReading}
 use Rattle.svr3.specs.declared.process.Halt as h
 use Rattle.svr3.specs.declared.process.Halt.TheVariants.{Exited, Raised, Spent}
 use Rattle.svr3.specs.declared.answer.End.{End}
 use Rattle.svr3.specs.declared.answer.End.TheVariants.{Ran, Signalled, Session, Built, Usage, Absent, TooLarge, Refused, ReadFault, WriteFault, Budget, Memory}
-use Rattle.svr3.specs.declared.answer.Refusal.TheVariants.{Unbuilt}
+use Rattle.svr3.specs.declared.answer.Refusal.TheVariants.{Syntax, Rule, Join, Unbuilt}
 
 -- the exit status
 abbrev pub status_of : End → ℕ
@@ -34,24 +39,6 @@ status_of ReadFault = 6
 status_of WriteFault = 6
 status_of Budget = 7
 status_of Memory = 8
-
-abbrev pub named_line : List ℕ → List ℕ → List ℕ
-named_line words name = (words ++ name) ++ 10 ∷ []
-
--- the line that tells of an end, if one does
-abbrev pub line_of : End → List ℕ
-line_of (Ran s) = []
-line_of (Signalled g) = []
-line_of Session = []
-line_of Built = []
-line_of Usage = codes "svr3: usage" ++ 10 ∷ []
-line_of (Absent name) = named_line (codes "svr3: absent: ") name
-line_of (TooLarge name) = named_line (codes "svr3: too large: ") name
-line_of (Refused refusal) = codes "svr3: refused: unbuilt" ++ 10 ∷ []
-line_of ReadFault = codes "svr3: read fault" ++ 10 ∷ []
-line_of WriteFault = codes "svr3: write fault" ++ 10 ∷ []
-line_of Budget = codes "svr3: budget" ++ 10 ∷ []
-line_of Memory = codes "svr3: memory" ++ 10 ∷ []
 
 -- what is told before a call and behind it: what the files hold and their count of faults, and what the output's sink held, then
 -- holds, and its count of faults
@@ -96,65 +83,85 @@ end_of Spent = Budget
 -- The machine runs the bytes of .text that are made of a main, and the end is how the process has stopped.
 abbrev pub MachineAnswers : Func → ℕ → Outside → End → Type 0
 MachineAnswers f most o end =
-    (mem : Space) → IsInitial mem (text_of (linked (program_of f)) 0 record { unit = 0; func = f }) [] 0 →
+    (mem : Space) → IsInitial mem (bytes_of f) [] 0 →
     (stop : h.Halt) (output : List ℕ) → Stops (started mem []) most stop output → IsEndWith o (end_of stop) output end
 
 -- so many instructions are enough for a text of so many bytes whose run begins so many turns
 abbrev pub enough : ℕ → ℕ → ℕ
 enough bytes turns = (turns + 2) * (64 * bytes + 512)
 
--- The source machine's run of a main, as it is stopped at a turn or ends.
-pub record SourceAnswers (f : Func) (bytes most : ℕ) (o : Outside) (end : End) : Type 0 where
+-- The source machine's run of a program, as it is stopped at a turn or ends.
+pub record SourceAnswers (p : Program) (bytes most : ℕ) (o : Outside) (end : End) : Type 0 where
   -- where the run ends, the end is its status and the output is the run's, or the budget ends the run and the output is a front of it
   pub ends :
-      (n status : ℕ) (s : State) → run (program_of f) [] no_changes n ≡ Halt (Ended status) s →
+      (n status : ℕ) (s : State) → run p [] no_changes n ≡ Halt (Ended status) s →
       IsEndWith o (Ran status) s.output end ⊎ ((end ≡ Budget) × GainsFront o.old o.new s.output)
   -- where it ends within a budget that is enough, the budget does not end it
   pub budget_is_enough :
-      (n status : ℕ) (s : State) → run (program_of f) [] no_changes n ≡ Halt (Ended status) s → enough bytes s.turns ≤ most → IsEndWith o (Ran status) s.output end
+      (n status : ℕ) (s : State) → run p [] no_changes n ≡ Halt (Ended status) s → enough bytes s.turns ≤ most → IsEndWith o (Ran status) s.output end
   -- where it goes on for ever, the budget ends it, and the output is a front of what it has written at some turn
   pub goes_on :
-      ((n : ℕ) → 0 < n → (s : State) × (run (program_of f) [] no_changes n ≡ Halt Stopped s)) →
-      ((end ≡ Budget) ⊎ IsExcused o end) × (n : ℕ) × (s : State) × (run (program_of f) [] no_changes n ≡ Halt Stopped s) × GainsFront o.old o.new s.output
+      ((n : ℕ) → 0 < n → (s : State) × (run p [] no_changes n ≡ Halt Stopped s)) →
+      ((end ≡ Budget) ⊎ IsExcused o end) × (n : ℕ) × (s : State) × (run p [] no_changes n ≡ Halt Stopped s) × GainsFront o.old o.new s.output
+
+-- ---- texts
+
+-- how the code tells why typed units are refused
+abbrev pub join_err : join.Refusal → JoinErr
+join_err join.NoMain = err.NoMain
+join_err (join.Twice x) = err.Twice x
+join_err (join.Undefined x) = err.Undefined x
+join_err (join.Clash x) = err.Clash x
+join_err (join.Arguments x) = err.Arguments x
+
+-- what an end says of the texts from which it comes
+abbrev pub MayEnd : List (List ℕ) → Outside → End → Type 0
+MayEnd texts o (Ran s) = Runs texts
+MayEnd texts o (Signalled g) = Runs texts
+MayEnd texts o Session = ⊥
+MayEnd texts o Built = ⊥
+MayEnd texts o Usage = ⊥
+MayEnd texts o (Absent name) = ⊥
+MayEnd texts o (TooLarge name) = ⊥
+MayEnd texts o (Refused refusal) = IsRight texts refusal
+MayEnd texts o ReadFault = Rose o.reads_before o.reads_now
+MayEnd texts o WriteFault = Rose o.writes_before o.writes_now
+MayEnd texts o Budget = Runs texts
+MayEnd texts o Memory = ⊤
+
+-- files of these texts
+pub record TextsAnswer (texts : List (List ℕ)) (most : ℕ) (o : Outside) (end : End) : Type 0 where
+  -- an end comes only where it may
+  pub only : MayEnd texts o end
+  -- the first text that no unit reads is named
+  pub syntax : (k : ℕ) → IsSyntax texts k → (((line : ℕ) × (end ≡ Refused (Syntax k line))) ⊎ IsExcused o end) × IsSilent o
+  -- the first file in which a rule fails is named, with a rule that fails in it
+  pub rule : (k rule : ℕ) → IsRule texts k rule → (((line named : ℕ) × (end ≡ Refused (Rule k line named))) ⊎ IsExcused o end) × IsSilent o
+  -- the first check of the join that fails is named, at the first name
+  pub join_fails : (why : join.Refusal) → IsJoin texts why → IsEnd o (Refused (Join (join_err why))) end
+  -- a program of another form isn't built yet
+  pub unbuilt : (p : Program) → IsAccepted texts p → ((f : Func) → IsSmall texts f → ⊥) → IsEnd o (Refused Unbuilt) end
+  -- a program of the small form runs
+  pub machine : (p : Program) → IsAccepted texts p → (f : Func) → IsSmall texts f → MachineAnswers f most o end
+  pub source : (p : Program) → IsAccepted texts p → (f : Func) → (s : IsSmall texts f) → SourceAnswers p (length s.text) most o end
 
 -- ---- files and words
 
--- a file of these bytes
-pub record TextAnswers (name text : List ℕ) (most : ℕ) (o : Outside) (end : End) : Type 0 where
-  pub large : 262144 < length text → IsEnd o (TooLarge name) end
-  pub refused : length text ≤ 262144 → ((f : Func) → IsSmallText text f → ⊥) → IsEnd o (Refused Unbuilt) end
-  pub machine : (f : Func) → IsSmallText text f → MachineAnswers f most o end
-  pub source : (f : Func) → IsSmallText text f → SourceAnswers f (length text) most o end
+-- what reading the files comes to
+abbrev pub ReadingAnswers : Reading → ℕ → Outside → End → Type 0
+ReadingAnswers (Texts texts) most o end = TextsAnswer texts most o end
+ReadingAnswers (Lacks name) most o end = IsEnd o (Absent name) end
+ReadingAnswers (Exceeds name) most o end = IsEnd o (TooLarge name) end
 
--- a file that isn't there, or that holds these bytes
-abbrev pub FileAnswers : List ℕ → ℕ → Option (List ℕ) → Outside → End → Type 0
-FileAnswers name most None o end = ((end ≡ Absent name) ⊎ (end ≡ Memory)) × IsSilent o
-FileAnswers name most (Some text) o end = TextAnswers name text most o end
+-- The files of these names. Where it isn't told what they hold, the end is one that some texts of them give.
+abbrev pub FilesAnswer : List Name → ℕ → Option Held → Outside → End → Type 0
+FilesAnswer names most None o end = (r : Reading) × IsReading None names r × ReadingAnswers r most o end
+FilesAnswer names most (Some held) o end = ReadingAnswers (reading held names) most o end
 
--- the ends that may come where the files tell nothing
-abbrev pub MayEnd : List ℕ → Outside → End → Type 0
-MayEnd name o (Ran s) = ⊤
-MayEnd name o (Signalled g) = ⊤
-MayEnd name o Session = ⊥
-MayEnd name o Built = ⊥
-MayEnd name o Usage = ⊥
-MayEnd name o (Absent other) = other ≡ name
-MayEnd name o (TooLarge other) = other ≡ name
-MayEnd name o (Refused refusal) = ⊤
-MayEnd name o ReadFault = Rose o.reads_before o.reads_now
-MayEnd name o WriteFault = Rose o.writes_before o.writes_now
-MayEnd name o Budget = ⊤
-MayEnd name o Memory = ⊤
-
--- the file of this name, where it is told what the files hold
-abbrev pub FilesAnswer : List ℕ → ℕ → Option Held → Outside → End → Type 0
-FilesAnswer name most None o end = MayEnd name o end
-FilesAnswer name most (Some held) o end = FileAnswers name most (held name) o end
-
--- the words ask for nothing, or to run a file
+-- The words ask for nothing, or to run files. Want of memory may come before it is known what they ask for.
 abbrev pub WordsAnswer : Option Request → Outside → End → Type 0
-WordsAnswer None o end = (end ≡ Usage) × IsSilent o
-WordsAnswer (Some a) o end = FilesAnswer a.file a.most o.held o end
+WordsAnswer None o end = ((end ≡ Usage) ⊎ (end ≡ Memory)) × IsSilent o
+WordsAnswer (Some a) o end = FilesAnswer a.files a.most o.held o end
 
 -- the end of a call with these words
 abbrev pub Answers : List (List ℕ) → Outside → End → Type 0
@@ -163,22 +170,3 @@ Answers words o end = WordsAnswer (asked words) o end
 -- a sink gained this line, or a front of it where its count of faults rose
 abbrev pub GainsLine : Option (List ℕ) → Option (List ℕ) → ℕ → ℕ → List ℕ → Type 0
 GainsLine old new before now line = Appends old new line ⊎ (Rose before now × ((n : ℕ) × Appends old new (take n line)))
-
--- an end whose line has a name in it
-abbrev pub IsNamed : End → Type 0
-IsNamed (Ran s) = ⊥
-IsNamed (Signalled g) = ⊥
-IsNamed Session = ⊥
-IsNamed Built = ⊥
-IsNamed Usage = ⊥
-IsNamed (Absent name) = ⊤
-IsNamed (TooLarge name) = ⊤
-IsNamed (Refused refusal) = ⊥
-IsNamed ReadFault = ⊥
-IsNamed WriteFault = ⊥
-IsNamed Budget = ⊥
-IsNamed Memory = ⊥
-
--- the same end, or want of memory for its line
-abbrev pub IsOrMemory : End → End → Type 0
-IsOrMemory end now = (now ≡ end) ⊎ ((now ≡ Memory) × IsNamed end)

@@ -1,10 +1,15 @@
 pub mod Output
 pub mod Process
+pub mod Different
+pub mod NameSets
 pub mod SmallForm
 pub mod Given
-pub mod Variables
 pub mod Command
+pub mod Asked
+pub mod Reading
+pub mod Front
 pub mod Started
 pub mod Compiled
+pub mod Lines
 pub mod Answer
 pub mod Ended

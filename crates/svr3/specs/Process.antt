@@ -1,5 +1,5 @@
 -- A process without input, one instruction after the other.
-use Rattle.std.specs.Prelude.{ℕ, suc, ◌≡◌, ◌≤◌, min, List, [], ◌++◌, Option, Some, None, Result, Ok, Err}
+use Rattle.std.specs.Prelude.{ℕ, suc, ◌≡◌, ◌≤◌, min, List, [], Option, Some, None, Result, Ok, Err}
 use Rattle.std.specs.Io.KnownBytes.{Appends}
 use Rattle.mach_mem.specs.Space.{Space}
 use Rattle.mach_exec.specs.declared.Cpu.{Cpu}

@@ -1,13 +1,13 @@
 -- The small form: `main ( ) { D* S* }`, where D is `int` and names, S is `name = E ;`, `while ( E ) S`, `{ S* }`,
 -- `putchar ( E ) ;` or `return E ;`, and E is terms joined by `+` and `-`. What is said here is the typed tree of each tree of
 -- the form, and nothing for any other tree. Everything is an int.
-use Rattle.std.specs.Prelude.{ℕ, suc, ◌+◌, ◌-◌, ◌≡◌, ◌≤◌, nat_eq, List, [], ◌∷◌, ◌++◌, length, map, Bool, true, false, not, ◌&&◌, nat_le, Option, Some, None, option_map, position}
-use Rattle.std.specs.List.{list_all, list_any, flat_map}
+use Rattle.std.specs.Prelude.{ℕ, suc, ◌+◌, ◌-◌, ◌≡◌, ◌≤◌, nat_eq, List, [], ◌∷◌, length, map, Bool, true, false, not, ◌&&◌, nat_le, Option, Some, None, option_map}
+use Rattle.std.specs.List.{list_all, flat_map}
 use Rattle.c_type.specs.Names.{Name, same_name, pick}
 use Rattle.c_type.specs.Tokens.{Token, Tok}
 use Rattle.c_type.specs.Tokens as k
 use Rattle.c_type.specs.declared.Kind.TheVariants.{Int}
-use Rattle.c_type.specs.Types.{CType, num, fun}
+use Rattle.c_type.specs.Types.{num, fun}
 use Rattle.c_type.specs.Falls.{Falls}
 use Rattle.c_tree.specs.Words.{open_round, close_round}
 use Rattle.c_tree.specs.TreeExpr as u
@@ -28,12 +28,9 @@ use Rattle.c_tree.specs.Context.{putchar_name}
 use Rattle.c_tree.specs.Run.{main_name}
 use Rattle.c_tree.specs.WrittenDeclr.{declared}
 use Rattle.c_tree.specs.Reads.{ReadsTokens}
+use Rattle.svr3.specs.Different.{place_in, are_different}
 
 -- ---- expressions
-
--- the place of a name among those that are declared
-abbrev pub place_in : List Name → Name → Option ℕ
-place_in ns x = position (λ y. same_name y x) ns
 
 -- the variable of that place
 abbrev pub variable : Option ℕ → Option TExpr
@@ -181,15 +178,6 @@ locals_in i (x ∷ xs) = object x.declr i ∷ locals_in (i + 1) xs
 abbrev pub decls_in : ℕ → List d.LocalDecl → List LocalDecl
 decls_in i [] = []
 decls_in i (x ∷ xs) = record { items = locals_in i x.items } ∷ decls_in (i + length x.items) xs
-
--- a name is among others
-abbrev pub stands_in : List Name → Name → Bool
-stands_in ns x = list_any (λ y. same_name y x) ns
-
--- no name stands twice
-abbrev pub are_different : List Name → Bool
-are_different [] = true
-are_different (x ∷ xs) = not (stands_in xs x) && are_different xs
 
 -- no name is declared twice, and none is `main` or `putchar`
 abbrev pub is_free : Name → Bool

@@ -2,7 +2,6 @@
 use Rattle.std.specs.Prelude.{ℕ, List, [], ◌≡◌, Option, Result, Ok, Err}
 use Rattle.mach_mem.specs.Space.{Space, IsInitial}
 use Rattle.gen_expr.specs.Whole.{started}
-use Rattle.outside.specs.Causes.{Rose}
 use Rattle.svr3.specs.declared.process.Halt.{Halt}
 use Rattle.svr3.specs.declared.machine.Stuck.{Stuck}
 use Rattle.svr3.specs.declared.machine.Stuck.TheVariants.{WriteFault, Memory}

@@ -1,14 +1,21 @@
 // How a call ends.
-ghost use Rattle.std.specs.Prelude.{◌≡◌, IfOk};
-ghost use Rattle.svr3.specs.Answer.{status_of, named_line};
+ghost use Rattle.std.specs.Prelude.{◌≡◌};
+ghost use Rattle.svr3.specs.Answer.{status_of};
 
+use c_whole::JoinErr;
 use num_le::Name;
-use std::alloc::{AllocError, Global};
+use std::alloc::AllocFailed;
 
-/// Why a program is refused.
+/// Why a program is refused. Files are counted from 0.
 #[derive(Debug, Drop)]
 pub enum Refusal {
-    /// The text is no program of the form that is built so far.
+    /// This file isn't a text of C; the line is near the fault.
+    Syntax { file: u32, line: u32 },
+    /// In this file this typing rule fails, near this line.
+    Rule { file: u32, line: u32, rule: u8 },
+    /// The files don't join. The reason is never want of memory.
+    Join(JoinErr),
+    /// The program isn't of the form that is built so far.
     Unbuilt,
 }
 
@@ -41,6 +48,17 @@ pub enum End {
     Memory,
 }
 
+impl<T: Drop> From<AllocFailed<T>> for End {
+    ghost use Rattle.std.specs.Prelude.{◌≡◌};
+    ghost use Rattle.svr3.specs.declared.answer.End.{End};
+
+    ghost from_gives = { λ _ e. e ≡ End.Memory };
+
+    fn from(_: AllocFailed<T>) -> End {
+        End::Memory
+    }
+}
+
 /// The exit status that tells of this end.
 pub fn status(end: &End) -> u8
     ensures status { result ≡ status_of end.now }
@@ -56,14 +74,4 @@ pub fn status(end: &End) -> u8
         End::Budget => 7,
         End::Memory => 8,
     }
-}
-
-/// A line of these words with this name behind them.
-pub fn named_line(alloc: Global, words: &[u8], name: &Name) -> Result<Vec<u8>, AllocError>
-    ensures { IfOk result (λ v. v.items ≡ named_line words.now name.now) }
-{
-    let mut line = words.to_vec(alloc)?;
-    line.extend_from_slice(name.as_slice())?;
-    line.push(b'\n')?;
-    Ok(line)
 }

@@ -1,15 +1,18 @@
-//! The tool chain of System V Release 3: compiles a C file and runs it on the 386.
+//! The tool chain of System V Release 3: compiles C files and runs them on the 386.
 #![tactic(auto)]
 
 mod answer;
+mod front;
+mod lines;
 mod machine;
+mod name_set;
 mod output;
 mod process;
 mod program;
+mod reading;
 mod real;
 mod small_form;
 mod top;
-mod variables;
 mod words;
 
 use answer::{End, status};

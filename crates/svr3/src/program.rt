@@ -1,14 +1,18 @@
-// From a C text to the bytes of .text.
-ghost use Rattle.std.specs.Prelude.{◌≡◌, ◌≤◌, ◌<◌, length, map};
+// From texts of the small form to the bytes of .text.
+ghost use Rattle.std.specs.Prelude.{◌≡◌, ◌≤◌, length, map};
+ghost use Rattle.std.specs.List.{AllZip};
 ghost use Rattle.c_lex.specs.Shown.{token_of, tok_of, tokens_of};
+ghost use Rattle.c_tree.specs.TreeOf.{unit_of};
+ghost use Rattle.c_tree.specs.Reads.{ReadsTokens};
 ghost use Rattle.svr3.specs.SmallForm as s;
-ghost use Rattle.svr3.specs.Compiled.{lex_fault_of, parse_fault_of, Lexes, Parses, TypesTokens, Types, Compiles};
+ghost use Rattle.svr3.specs.Compiled.{TypesTokens, Types, Compiles};
+ghost use Rattle.svr3.specs.Front.{IsSource};
+ghost use Rattle.svr3.specs.Reading.{texts_of};
 
+use crate::front::Source;
 use crate::small_form::{Fault, small_main};
-use c_expr::ParseErr;
-use c_lex::{LexErr, Tok, Token, Tokens, lex};
-use c_parse::parse;
-use c_tree::{TFunc, Unit};
+use c_lex::{Tok, Token};
+use c_tree::TFunc;
 use gen_expr::small_text;
 use std::alloc::Global;
 
@@ -43,78 +47,37 @@ fn are_few(tokens: &[Token]) -> bool
     true
 }
 
-// What a refusal of the tokens is here.
-fn lex_fault(error: &LexErr) -> Fault
-    ensures { result ≡ lex_fault_of error.now }
+// The typed main of a source.
+fn main_in(alloc: Global, source: &Source) -> Result<TFunc, Fault>
+    requires counted { length (tokens_of source.now.tokens) ≤ 131000 }
+    requires reads { ReadsTokens (tokens_of source.now.tokens) (unit_of source.now.unit) }
+    ensures { TypesTokens (tokens_of source.now.tokens) result }
 {
-    match error {
-        LexErr::BadByte(_) => Fault::Unbuilt,
-        LexErr::OpenComment(_) => Fault::Unbuilt,
-        LexErr::OpenText(_) => Fault::Unbuilt,
-        LexErr::NumberTooLarge(_) => Fault::Unbuilt,
-        LexErr::Memory => Fault::Memory,
-    }
-}
-
-// The tokens of a text.
-fn tokens(alloc: Global, text: &[u8]) -> Result<Tokens, Fault>
-    requires counted { length text.now < 4294967295 }
-    ensures { Lexes text.now result }
-{
-    match lex(alloc, text) {
-        Ok(tokens) => Ok(tokens),
-        Err(error) => Err(lex_fault(&error)),
-    }
-}
-
-// What a refusal of the unit is here.
-fn parse_fault(error: &ParseErr) -> Fault
-    ensures { result ≡ parse_fault_of error.now }
-{
-    match error {
-        ParseErr::TooDeep(_) => Fault::Unbuilt,
-        ParseErr::NotC(_) => Fault::Unbuilt,
-        ParseErr::Memory => Fault::Memory,
-    }
-}
-
-// The unit that tokens spell.
-fn unit(alloc: Global, tokens: &Tokens) -> Result<Unit, Fault>
-    ensures { Parses (tokens_of tokens.now) result }
-{
-    match parse(alloc, tokens) {
-        Ok(unit) => Ok(unit),
-        Err(error) => Err(parse_fault(&error)),
-    }
-}
-
-// The typed main of tokens.
-fn main_in(alloc: Global, tokens: &Tokens) -> Result<TFunc, Fault>
-    requires counted { length tokens.now.list.items ≤ 131000 }
-    ensures { TypesTokens (tokens_of tokens.now) result }
-{
-    if !are_few(&tokens.list) {
+    if !are_few(&source.tokens.list) {
         return Err(Fault::Unbuilt);
     }
-    let unit = unit(alloc, tokens)?;
-    small_main(alloc, &unit)
+    small_main(alloc, &source.unit)
 }
 
-// The typed main of a text.
-fn main_of(alloc: Global, text: &[u8]) -> Result<TFunc, Fault>
-    ensures { Types text.now result }
+// The typed main of texts with these sources.
+fn main_of(alloc: Global, texts: &[Vec<u8>], sources: &[Source]) -> Result<TFunc, Fault>
+    requires read { AllZip IsSource (texts_of texts.now) sources.now }
+    ensures { Types (texts_of texts.now) result }
 {
-    if text.len() > MOST {
+    if texts.len() != 1 {
         return Err(Fault::Unbuilt);
     }
-    let tokens = tokens(alloc, text)?;
-    main_in(alloc, &tokens)
+    if texts[0].len() > MOST {
+        return Err(Fault::Unbuilt);
+    }
+    main_in(alloc, &sources[0])
 }
 
 /// The bytes of .text of a program of the small form.
-pub fn text_of(alloc: Global, text: &[u8]) -> Result<Vec<u8>, Fault>
-    ensures { Compiles text.now result }
+pub fn text_of(alloc: Global, texts: &[Vec<u8>], sources: &[Source]) -> Result<Vec<u8>, Fault>
+    requires read { AllZip IsSource (texts_of texts.now) sources.now }
+    ensures { Compiles (texts_of texts.now) result }
 {
-    let main = main_of(alloc, text)?;
+    let main = main_of(alloc, texts, sources)?;
     Ok(small_text(alloc, 0, &main)?)
 }

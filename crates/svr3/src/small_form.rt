@@ -9,10 +9,11 @@ ghost use Rattle.c_tree.specs.TypedOf as t;
 ghost use Rattle.c_tree.specs.WrittenDeclr.{declared};
 ghost use Rattle.c_tree.specs.RuleUnit.{IsTyped};
 ghost use Rattle.svr3.specs.Given.{Gives};
+ghost use Rattle.svr3.specs.Different.{place_in, are_different};
 ghost use Rattle.svr3.specs.SmallForm as s;
-ghost use Rattle.svr3.specs.Variables.{names_of};
+ghost use Rattle.svr3.specs.NameSets.{names_of};
 
-use crate::variables::Variables;
+use crate::name_set::NameSet;
 use c_tree::{
     AssignOp, BinaryOp, Block, Declr, Expr, Ext, Init, Item, LocalDecl, Ref, Stmt, Storage,
     TBinary, TBlock, TDeclr, TExpr, TFunc, TLocal, TLocalDecl, TStmt, TypeSpec, Unit,
@@ -60,9 +61,9 @@ fn int() -> CType
 
 // The variable of that name.
 #[tactic(auto, using(crate::proofs::SmallTrees::place_below))]
-fn variable(variables: &Variables, x: &Name) -> Result<TExpr, Fault>
+fn variable(variables: &NameSet, x: &Name) -> Result<TExpr, Fault>
     requires { length (names_of variables.now) ≤ 131072 }
-    ensures { Gives t.expr_of result (s.variable (s.place_in (names_of variables.now) x.now)) }
+    ensures { Gives t.expr_of result (s.variable (place_in (names_of variables.now) x.now)) }
 {
     match variables.place(x) {
         Some(i) => Ok(TExpr::Name(int(), Ref::Local(i as u32))),
@@ -90,7 +91,7 @@ fn sum_of(op: BinaryOp) -> Option<TBinary>
     }
 }
 
-fn sum(alloc: Global, variables: &Variables, e: &Expr) -> Result<TExpr, Fault>
+fn sum(alloc: Global, variables: &NameSet, e: &Expr) -> Result<TExpr, Fault>
     requires { length (names_of variables.now) ≤ 131072 }
     ensures { Gives t.expr_of result (s.sum_in (names_of variables.now) (u.expr_of e.now)) }
 {
@@ -123,7 +124,7 @@ fn sum(alloc: Global, variables: &Variables, e: &Expr) -> Result<TExpr, Fault>
 }
 
 // The name on the left of an assignment.
-fn target(variables: &Variables, e: &Expr) -> Result<TExpr, Fault>
+fn target(variables: &NameSet, e: &Expr) -> Result<TExpr, Fault>
     requires { length (names_of variables.now) ≤ 131072 }
     ensures { Gives t.expr_of result (s.variable_in (names_of variables.now) (u.expr_of e.now)) }
 {
@@ -160,7 +161,7 @@ fn call(alloc: Global, argument: TExpr) -> Result<TExpr, Fault>
 }
 
 // The one argument of a call.
-fn argument(alloc: Global, variables: &Variables, es: &[Expr]) -> Result<TExpr, Fault>
+fn argument(alloc: Global, variables: &NameSet, es: &[Expr]) -> Result<TExpr, Fault>
     requires { length (names_of variables.now) ≤ 131072 }
     ensures { Gives t.expr_of result (s.argument_in (names_of variables.now) (u.exprs_from es.now)) }
 {
@@ -171,7 +172,7 @@ fn argument(alloc: Global, variables: &Variables, es: &[Expr]) -> Result<TExpr, 
 }
 
 // `name = E` or `putchar ( E )`.
-fn action(alloc: Global, variables: &Variables, e: &Expr) -> Result<TExpr, Fault>
+fn action(alloc: Global, variables: &NameSet, e: &Expr) -> Result<TExpr, Fault>
     requires { length (names_of variables.now) ≤ 131072 }
     ensures { Gives t.expr_of result (s.action_in (names_of variables.now) (u.expr_of e.now)) }
 {
@@ -211,7 +212,7 @@ fn check_line(line: u32) -> Result<(), Fault>
 #[cycle(stmts)]
 fn stmts(
     alloc: Global,
-    variables: &Variables,
+    variables: &NameSet,
     next: &mut u32,
     list: &[Stmt],
 ) -> Result<Vec<TStmt>, Fault>
@@ -229,7 +230,7 @@ fn stmts(
 
 #[cycle(stmts)]
 #[tactic(auto, using(crate::proofs::SmallTrees::stmt_block))]
-fn stmt(alloc: Global, variables: &Variables, next: &mut u32, one: &Stmt) -> Result<TStmt, Fault>
+fn stmt(alloc: Global, variables: &NameSet, next: &mut u32, one: &Stmt) -> Result<TStmt, Fault>
     requires few { length (names_of variables.now) ≤ 131072 }
     requires counted { next.old + s.stmt_starts (u.stmt_of one.now) ≤ 131072 }
     ensures typed { Gives t.stmt_of result (s.stmt_in (names_of variables.now) next.old (u.stmt_of one.now)) }
@@ -263,12 +264,7 @@ fn stmt(alloc: Global, variables: &Variables, next: &mut u32, one: &Stmt) -> Res
 
 // A block without declarations.
 #[cycle(stmts)]
-fn block(
-    alloc: Global,
-    variables: &Variables,
-    next: &mut u32,
-    inner: &Block,
-) -> Result<TStmt, Fault>
+fn block(alloc: Global, variables: &NameSet, next: &mut u32, inner: &Block) -> Result<TStmt, Fault>
     requires few { length (names_of variables.now) ≤ 131072 }
     requires counted { next.old + s.stmts_starts (u.block_of inner.now).stmts ≤ 131072 }
     ensures typed { Gives t.stmt_of result (s.stmt_in (names_of variables.now) next.old (s.as_stmt (u.block_of inner.now))) }
@@ -417,7 +413,7 @@ fn are_free(names: &[Name]) -> bool
 #[tactic(auto, using(crate::proofs::SmallTrees::all_mapped, crate::proofs::SmallTrees::and_later))]
 fn is_plain_body(names: &[Name], block: &Block) -> bool
     requires names { names.now ≡ s.names_in (u.block_of block.now).decls }
-    ensures value { (result && s.are_different names.now) ≡ s.is_body (u.block_of block.now) }
+    ensures value { (result && are_different names.now) ≡ s.is_body (u.block_of block.now) }
 {
     is_line(block.line) && is_line(block.close_line) && are_plain(&block.decls) && are_free(names)
 }
@@ -430,7 +426,7 @@ fn body(alloc: Global, block: &Block) -> Result<TFunc, Fault>
     if !is_plain_body(&names, block) {
         return Err(Fault::Unbuilt);
     }
-    let Some(variables) = Variables::of(alloc, &names)? else {
+    let Some(variables) = NameSet::of(alloc, &names)? else {
         return Err(Fault::Unbuilt);
     };
     let mut next = 1;

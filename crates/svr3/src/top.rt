@@ -1,20 +1,26 @@
 // The top call.
-ghost use Rattle.std.specs.Prelude.{◌≡◌, ◌≤◌, ◌⊎◌, length};
-ghost use Rattle.svr3.specs.Answer.{Answers, GainsLine, IsNamed, IsOrMemory, line_of, end_of, outside};
-ghost use Rattle.svr3.specs.Ended.{EndsCode, EndsText};
+ghost use Rattle.std.specs.Prelude.{◌≡◌, ◌≤◌, length, All};
+ghost use Rattle.std.specs.List.{AllZip};
+ghost use Rattle.c_tree.specs.TypedOf.{program_of};
+ghost use Rattle.svr3.specs.Answer.{Answers, FilesAnswer, GainsLine, end_of, outside};
+ghost use Rattle.svr3.specs.Command.{files_asked};
+ghost use Rattle.svr3.specs.Ended.{EndsCode, EndsTexts};
+ghost use Rattle.svr3.specs.Front.{IsAccepted, IsSource};
+ghost use Rattle.svr3.specs.Lines.{IsOrMemory, line_of};
+ghost use Rattle.svr3.specs.Reading.{texts_of};
 
-use crate::answer::{End, Refusal, named_line};
+use crate::answer::{End, Refusal};
+use crate::front::{Accepted, FrontErr, accept};
+use crate::lines::{fixed_line, line};
 use crate::machine::{Stuck, run_text};
 use crate::process::Halt;
 use crate::program::text_of;
+use crate::reading::texts;
 use crate::small_form::Fault;
 use crate::words::{Words, asked};
 use num_le::Name;
-use outside::{FileErr, Files, Sink, Source, put_all};
+use outside::{Files, Sink, Source, put_all};
 use std::alloc::Global;
-
-// The limit of a source file, in bytes.
-const MOST: usize = 262_144;
 
 // The end where a process has stopped.
 fn stopped(halt: Halt) -> End
@@ -39,57 +45,53 @@ fn run_code<S: Sink>(alloc: Global, code: &[u8], most: u64, out: &mut S) -> End
     }
 }
 
-// The end with the name of a file, or want of memory.
-fn too_large(alloc: Global, name: &[u8]) -> End
-    ensures { (result ≡ End.TooLarge name.now) ⊎ (result ≡ End.Memory) }
+// Runs the program that these texts make.
+fn run_program<S: Sink>(
+    alloc: Global,
+    texts: &[Vec<u8>],
+    program: &Accepted,
+    most: u64,
+    out: &mut S,
+) -> End
+    requires accepted { IsAccepted (texts_of texts.now) (program_of program.now.program) }
+    requires read { AllZip IsSource (texts_of texts.now) program.now.sources.items }
+    ensures end { EndsTexts (texts_of texts.now) most (S.held out.old) (S.held out.new) (S.faults out.old) (S.faults out.new) result }
 {
-    match Name::of(alloc, name) {
-        Ok(name) => End::TooLarge(name),
-        Err(_) => End::Memory,
-    }
-}
-
-// The end where there is no such file, or want of memory.
-fn absent(alloc: Global, name: &[u8]) -> End
-    ensures { (result ≡ End.Absent name.now) ⊎ (result ≡ End.Memory) }
-{
-    match Name::of(alloc, name) {
-        Ok(name) => End::Absent(name),
-        Err(_) => End::Memory,
-    }
-}
-
-// Runs the program of a text within the limit.
-fn run_program<S: Sink>(alloc: Global, text: &[u8], most: u64, out: &mut S) -> End
-    ensures end { EndsText text.now most (S.held out.old) (S.held out.new) (S.faults out.old) (S.faults out.new) result }
-{
-    match text_of(alloc, text) {
+    match text_of(alloc, texts, &program.sources) {
         Ok(code) => run_code(alloc, &code, most, out),
         Err(Fault::Unbuilt) => End::Refused(Refusal::Unbuilt),
         Err(Fault::Memory) => End::Memory,
     }
 }
 
-// Runs the file of these words.
-fn run<F: Files, S: Sink>(alloc: Global, words: &Words, files: &mut F, out: &mut S) -> End
-    ensures answer { Answers words.now (outside (F.held files.old) (F.faults files.old) (F.faults files.new) (S.held out.old) (S.held out.new) (S.faults out.old) (S.faults out.new)) result }
+// Runs texts within the limit.
+fn run_texts<S: Sink>(alloc: Global, texts: &[Vec<u8>], most: u64, out: &mut S) -> End
+    requires few { length texts.now ≤ 10000 }
+    requires short { All (λ t. length t.items ≤ 262144) texts.now }
+    ensures end { EndsTexts (texts_of texts.now) most (S.held out.old) (S.held out.new) (S.faults out.old) (S.faults out.new) result }
+{
+    match accept(alloc, texts) {
+        Ok(program) => run_program(alloc, texts, &program, most, out),
+        Err(FrontErr::Refused(refusal)) => End::Refused(refusal),
+        Err(FrontErr::Memory) => End::Memory,
+    }
+}
+
+// Runs the files of these names.
+fn run<F: Files, S: Sink>(
+    alloc: Global,
+    names: &[Name],
+    most: u64,
+    files: &mut F,
+    out: &mut S,
+) -> End
+    requires few { length names.now ≤ 10000 }
+    ensures answer { FilesAnswer names.now most (F.held files.old) (outside (F.held files.old) (F.faults files.old) (F.faults files.new) (S.held out.old) (S.held out.new) (S.faults out.old) (S.faults out.new)) result }
     ensures unchanged { F.held files.new ≡ F.held files.old }
 {
-    let Some(asked) = asked(words) else {
-        return End::Usage;
-    };
-    match files.read(alloc, asked.file, MOST + 1) {
-        Ok(text) => {
-            let bytes = text.as_slice();
-            if bytes.len() > MOST {
-                too_large(alloc, asked.file)
-            } else {
-                run_program(alloc, bytes, asked.most, out)
-            }
-        }
-        Err(FileErr::Absent) => absent(alloc, asked.file),
-        Err(FileErr::Failed) => End::ReadFault,
-        Err(FileErr::Memory) => End::Memory,
+    match texts(alloc, names, files) {
+        Ok(texts) => run_texts(alloc, &texts, most, out),
+        Err(end) => end,
     }
 }
 
@@ -103,67 +105,36 @@ fn tell<E: Sink>(err: &mut E, line: &[u8])
     }
 }
 
-// The line that tells of an end without a name.
-fn fixed_line(end: &End) -> &'static [u8]
-    ensures { IsNamed end.now ⊎ (result.now ≡ line_of end.now) }
-{
-    match end {
-        End::Ran(_) | End::Signalled(_) | End::Session | End::Built => b"",
-        End::Absent(_) | End::TooLarge(_) => b"",
-        End::Usage => b"svr3: usage\n",
-        End::Refused(_) => b"svr3: refused: unbuilt\n",
-        End::ReadFault => b"svr3: read fault\n",
-        End::WriteFault => b"svr3: write fault\n",
-        End::Budget => b"svr3: budget\n",
-        End::Memory => b"svr3: memory\n",
-    }
-}
-
-// Tells that memory was wanting.
-fn tell_memory<E: Sink>(err: &mut E) -> End
-    ensures end { result ≡ End.Memory }
-    ensures line { GainsLine (E.held err.old) (E.held err.new) (E.faults err.old) (E.faults err.new) (line_of End.Memory) }
-{
-    tell(err, b"svr3: memory\n");
-    End::Memory
-}
-
-// Tells of an end, or of want of memory for its line.
-fn told<E: Sink>(alloc: Global, end: End, err: &mut E) -> End
+// Tells of an end of a call with files of these names, or of want of memory for its line.
+fn told<E: Sink>(alloc: Global, names: &[Name], end: End, err: &mut E) -> End
     ensures same { IsOrMemory end result }
-    ensures line { GainsLine (E.held err.old) (E.held err.new) (E.faults err.old) (E.faults err.new) (line_of result) }
+    ensures line { GainsLine (E.held err.old) (E.held err.new) (E.faults err.old) (E.faults err.new) (line_of names.now result) }
 {
-    match end {
-        End::Absent(name) => match named_line(alloc, b"svr3: absent: ", &name) {
-            Ok(line) => {
-                tell(err, &line);
-                End::Absent(name)
-            }
-            Err(_) => tell_memory(err),
-        },
-        End::TooLarge(name) => match named_line(alloc, b"svr3: too large: ", &name) {
-            Ok(line) => {
-                tell(err, &line);
-                End::TooLarge(name)
-            }
-            Err(_) => tell_memory(err),
-        },
-        other => {
-            tell(err, fixed_line(&other));
-            other
+    if let Some(line) = fixed_line(&end) {
+        tell(err, line);
+        return end;
+    }
+    match line(alloc, names, &end) {
+        Ok(line) => {
+            tell(err, &line);
+            end
+        }
+        Err(_) => {
+            tell(err, b"svr3: memory\n");
+            End::Memory
         }
     }
 }
 
-/// Does what these words ask for: `run`, an optional `-n` with its number, and the name of one C file
-/// compiles the file and runs the program on the 386. Its output goes to `out`.
+/// Does what these words ask for: `run`, an optional `-n` with its number, and the names of C files
+/// compiles the files and runs their program on the 386. Its output goes to `out`.
 ///
-/// The end is `Usage` exactly where the words aren't these, `Absent` exactly where there is no such
-/// file, `TooLarge` exactly where the file has more than 262,144 bytes, `Refused` exactly where its text
-/// isn't of the small form, and otherwise how the program stops on the machine: `Ran` with its status,
-/// or `Budget` where it has executed the number of instructions that `-n` gives, 100,000,000 without.
-/// `ReadFault` and `WriteFault` come only where a read or a write failed. Want of memory may stand for
-/// each of these but `Usage`. `err` gains the line of the end.
+/// The end is `Usage` exactly where the words aren't these, `Absent` and `TooLarge` exactly where the
+/// first file that can't be taken isn't there or has more than 262,144 bytes, `Refused` exactly where the
+/// texts make no program or one that isn't of the small form, and otherwise how the program stops on the
+/// machine: `Ran` with its status, or `Budget` where it has executed the number of instructions that `-n`
+/// gives, 100,000,000 without. `ReadFault` and `WriteFault` come only where a read or a write failed. Want
+/// of memory may stand for each of these. `err` gains the line of the end.
 pub fn svr3<F: Files, C: Source, S: Sink, E: Sink>(
     alloc: Global,
     words: &Words,
@@ -175,8 +146,14 @@ pub fn svr3<F: Files, C: Source, S: Sink, E: Sink>(
     ensures answer { Answers words.now (outside (F.held files.old) (F.faults files.old) (F.faults files.new) (S.held out.old) (S.held out.new) (S.faults out.old) (S.faults out.new)) result }
     ensures files { F.held files.new ≡ F.held files.old }
     ensures commands { C.left commands.new ≡ C.left commands.old }
-    ensures line { GainsLine (E.held err.old) (E.held err.new) (E.faults err.old) (E.faults err.new) (line_of result) }
+    ensures line { GainsLine (E.held err.old) (E.held err.new) (E.faults err.old) (E.faults err.new) (line_of (files_asked words.now) result) }
 {
-    let end = run(alloc, words, files, out);
-    told(alloc, end, err)
+    match asked(alloc, words) {
+        Ok(Some(request)) => {
+            let end = run(alloc, request.files, request.most, files, out);
+            told(alloc, request.files, end, err)
+        }
+        Ok(None) => told(alloc, &[], End::Usage, err),
+        Err(_) => told(alloc, &[], End::Memory, err),
+    }
 }

@@ -1,4 +1,4 @@
-use Rattle.std.proofs.Common.{◌≡◌, [], ◌∙◌, sym, ap, refl, ◌++◌}
+use Rattle.std.proofs.Common.{◌≡◌, [], ◌∙◌, sym, refl, ◌++◌}
 use Rattle.std.proofs.lemmas.Result.{err_from_is_err_and}
 use Rattle.mach_exec.specs.Step.{stepped}
 use Rattle.mach_exec.specs.System.{called}

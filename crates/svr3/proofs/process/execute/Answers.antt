@@ -1,5 +1,5 @@
 use Rattle.std.proofs.lemmas.Result.{err_from_is_err_and}
-use Rattle.svr3.proofs.Sending.{moved_all, moves_front}
+use Rattle.svr3.proofs.Sending.{moves_front}
 use Rattle.svr3.proofs.Executing.{breaks_stopped}
 use Rattle.svr3.proofs.process.execute.Goals as goal
 

@@ -1,5 +1,5 @@
-use Rattle.std.proofs.Common.{◌≡◌, ◌+◌, ◌∷◌, [], ◌∙◌, add-one, ap, sym, arith, append_assoc}
-use Rattle.std.specs.Prelude.{unwrap_or, ◌++◌}
+use Rattle.std.proofs.Common.{add-one, arith, append_assoc}
+use Rattle.std.specs.Prelude.{◌++◌}
 use Rattle.std.proofs.lemmas.Result.{err_from_is_err_and}
 use Rattle.mach_exec.specs.Strings.{bytes_from}
 use Rattle.svr3.specs.Output.{GainsFront}

@@ -1,7 +1,7 @@
-use Rattle.std.proofs.Common.{◌≡◌, ◌+◌, suc, add-one, arith, [], refl, sym, ap, ◌∙◌, ◌++◌}
+use Rattle.std.proofs.Common.{add-one, arith, ap, ◌∙◌, ◌++◌}
 use Rattle.std.proofs.lemmas.Result.{err_from_is_err_and}
 use Rattle.svr3.specs.Process.{process, written, progressed}
-use Rattle.svr3.proofs.Executing.{going_none, going_on, exits_at, raises_at, spent_at, breaks_at}
+use Rattle.svr3.proofs.Executing.{going_on, exits_at, raises_at, spent_at, breaks_at}
 use Rattle.svr3.proofs.process.run_on.Goals as goal
 
 pub returns-in_err-advance-clause-breaks : goal.returns-in_err-advance-clause-breaks

@@ -1,5 +1,4 @@
-use Rattle.std.proofs.Common.{◌≡◌, [], ◌∙◌, ap, sym, refl}
-use Rattle.std.specs.Prelude.{if◌then◌else◌}
+use Rattle.std.proofs.Common.{◌≡◌, [], ◌∙◌, ap, sym}
 use Rattle.svr3.specs.Process.{output_of, write_called, appended_from}
 use Rattle.svr3.proofs.Sending.{moves-nil}
 use Rattle.svr3.proofs.Calling.{not_appended}

@@ -1,13 +1,17 @@
 use Rattle.c_tree.specs.TypedOf.{func_of}
 use Rattle.c_tree.specs.Context.{linked}
 use Rattle.svr3.specs.SmallForm.{program_of}
+use Rattle.svr3.specs.Reading.{texts_of}
 use Rattle.svr3.proofs.MainFits.{main_taken}
 use Rattle.svr3.proofs.Compiling.{code_of}
 use Rattle.svr3.proofs.program.text_of.Goals as goal
 
 pub small_text-requires : goal.small_text-requires
-small_text-requires c = record { form = (main_taken c.args.text.now (func_of c.in_ok-main.main) c.in_ok-main.ensures).form }
+small_text-requires c =
+    let small = c.in_ok-main.ensures in
+    record { form = (main_taken small.text (func_of c.in_ok-main.main) small.small).form }
 
 pub returns : goal.returns
 returns c =
-    code_of c.args.text.now (func_of c.in_ok-main.main) c.in_ok-small_text.field-0.items c.in_ok-main.ensures (c.in_ok-small_text.ensures.bytes (linked (program_of (func_of c.in_ok-main.main))) 0)
+    let main = func_of c.in_ok-main.main in
+    code_of (texts_of c.args.texts.now) main c.in_ok-small_text.field-0.items c.in_ok-main.ensures (c.in_ok-small_text.ensures.bytes (linked (program_of main)) 0)

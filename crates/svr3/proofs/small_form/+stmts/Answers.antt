@@ -1,9 +1,9 @@
-use Rattle.std.proofs.Common.{◌≡◌, ◌+◌, ◌≤◌, ◌<◌, arith, ◌∙◌, sym, ap, rules, refl, drop, ◌∷◌, length, drop-cons, add-one}
+use Rattle.std.proofs.Common.{◌≡◌, ◌+◌, arith, ◌∙◌, sym, ap, refl, drop, ◌∷◌, length, drop-cons, add-one}
 use Rattle.std.proofs.lemmas.Result.{err_from_is_err_and}
 use Rattle.c_tree.specs.TreeOf as u
 use Rattle.c_tree.specs.TypedOf as o
 use Rattle.svr3.specs.SmallForm.{as_stmt, stmt_in, stmts_in, stmt_starts, stmts_starts}
-use Rattle.svr3.specs.Variables.{names_of}
+use Rattle.svr3.specs.NameSets.{names_of}
 use Rattle.svr3.proofs.SmallTrees.{with_front, typed_more, typed_done, stmt_block, depth_at, depth_of, block_none, block_some, handed_on}
 use Rattle.svr3.proofs.small_form.+stmts.Goals as goal
 

@@ -3,7 +3,7 @@ use Rattle.std.proofs.Common.{◌≡◌, ◌+◌, ◌*◌, drop}
 use Rattle.c_tree.specs.TreeOf.{stmt_of, stmts_from, block_of}
 use Rattle.c_tree.specs.TreeStmt.{stmt_depth, stmts_depth, block_depth}
 use Rattle.svr3.specs.SmallForm.{stmts_in, stmts_starts}
-use Rattle.svr3.specs.Variables.{names_of}
+use Rattle.svr3.specs.NameSets.{names_of}
 use Rattle.svr3.proofs.SmallTrees.{with_front}
 use Rattle.svr3.proofs.small_form.+stmts.Given as goal
 

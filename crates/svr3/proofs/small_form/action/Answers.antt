@@ -1,10 +1,9 @@
-use Rattle.std.proofs.Common.{◌≡◌, ◌∙◌, ap, sym}
+use Rattle.std.proofs.Common.{◌≡◌, ◌∙◌, ap}
 use Rattle.std.proofs.lemmas.Result.{err_from_is_err_and}
 use Rattle.c_tree.specs.TreeOf as u
 use Rattle.c_tree.specs.TypedOf as o
 use Rattle.svr3.specs.SmallForm.{called, argument_in, action_in}
-use Rattle.svr3.specs.Given.{Gives}
-use Rattle.svr3.specs.Variables.{names_of}
+use Rattle.svr3.specs.NameSets.{names_of}
 use Rattle.svr3.proofs.SmallTrees.{action_call, handed_on}
 use Rattle.svr3.proofs.small_form.action.Goals as goal
 

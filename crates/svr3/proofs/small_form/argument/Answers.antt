@@ -1,4 +1,4 @@
-use Rattle.svr3.specs.Variables.{names_of}
+use Rattle.svr3.specs.NameSets.{names_of}
 use Rattle.svr3.proofs.SmallTrees.{no_argument}
 use Rattle.svr3.proofs.small_form.argument.Goals as goal
 

@@ -1,9 +1,5 @@
-use Rattle.std.proofs.Common.{◌≡◌, ◌∙◌, sym, ap, Some, ◌++◌, ◌∷◌, []}
-use Rattle.c_type.specs.declared.Kind.TheVariants.{Int}
-use Rattle.c_type.specs.Types.{num}
-use Rattle.c_tree.specs.TExpr as e
+use Rattle.std.proofs.Common.{◌∙◌, ap, ◌++◌, ◌∷◌, []}
 use Rattle.c_tree.specs.TypedOf as o
-use Rattle.svr3.specs.SmallForm as s
 use Rattle.svr3.proofs.SmallTrees.{call_typed}
 use Rattle.svr3.proofs.small_form.call.Goals as goal
 

@@ -1,6 +1,5 @@
 use Rattle.std.proofs.Common.{◌∙◌, ap, refl, Err}
 use Rattle.svr3.specs.Ended.{stopped, broken}
-use Rattle.svr3.specs.Started.{RunsText}
 use Rattle.svr3.proofs.top.run_code.Goals as goal
 
 pub returns-in-Ok : goal.returns-in-Ok

@@ -1,0 +1,50 @@
+-- Each part is judged where those before it stand.
+use Rattle.std.proofs.Common.{List, [], map, refl}
+use Rattle.c_tree.specs.declared.unit.Ext.{Ext}
+use Rattle.c_tree.specs.TreeOf as u
+use Rattle.c_tree.specs.TUnit as t
+use Rattle.c_tree.specs.TypedOf.{ext_of}
+use Rattle.c_tree.specs.RuleScope.{Judged, Env}
+use Rattle.c_scope.specs.declared.error.TypeErr.{TypeErr}
+use Rattle.c_scope.specs.EnvOf.{env_of}
+use Rattle.c_scope.specs.Judging.{Behind}
+use Rattle.c_scope.specs.JudgingUnit as j
+use Rattle.c_block.proofs.Lists.{in_front, onto_list, err_judged}
+use Rattle.c_check.proofs.InOrder.{first, next, refused, last}
+use Rattle.c_check.proofs.Rows.{ext_row}
+use Rattle.c_check.proofs.units.exts.Goals as goal
+
+-- the outcome of the parts of a list, and of one part
+abbrev all : Env → List Ext → Judged (Behind (List t.TExt))
+all e xs = j.judged_exts e (map u.ext_of xs)
+
+abbrev one : Env → Ext → Judged (Behind t.TExt)
+one e x = j.judged_ext e (u.ext_of x)
+
+pub loop-part-init : goal.loop-part-init
+loop-part-init c =
+    first ext_of in_front one all ext_row (env_of c.args.c.now) c.args.parts.now c.new-typed.result.items c.new-typed.ensures.items
+
+pub loop-part-preserved : goal.loop-part-preserved
+loop-part-preserved c =
+    next ext_of in_front one all ext_row (env_of c.args.c.now) (env_of c.loop-part.c) (env_of c.ext.new.c) c.args.parts.now c.loop-part.part-index c.part-item.result
+    c.loop-part.typed.items c.push.new.self.items c.in_ok-one.one c.loop-part.invariant c.loop-part-test.true c.part-item.is c.in_ok-one.ensures.judged
+    c.in_ok-push.ensures.items
+
+pub returns-in_err-one : goal.returns-in_err-one
+returns-in_err-one c =
+    let w : TypeErr = c.in_err-one.field-0.0 in
+    record {
+      judged =
+          err_judged _ _ c.from_residual.result w c.from_residual.ensures.1
+          (refused ext_of in_front one all ext_row (env_of c.args.c.now) (env_of c.loop-part.c) c.args.parts.now c.loop-part.part-index c.part-item.result
+          c.loop-part.typed.items w c.loop-part.invariant c.loop-part-test.true c.part-item.is c.in_err-one.ensures.judged);
+    }
+
+pub returns : goal.returns
+returns c =
+    record {
+      judged =
+          last ext_of in_front one all ext_row (env_of c.args.c.now) (env_of c.loop-part.c) c.args.parts.now c.loop-part.part-index c.loop-part.typed.items [] (map ext_of c.loop-part.typed.items)
+          c.loop-part.invariant c.loop-part-test.false refl (onto_list ext_of c.loop-part.typed.items);
+    }

@@ -1,0 +1,8 @@
+pub mod Words
+pub mod TagParts
+pub mod FileParts
+pub mod Parameters
+pub mod Places
+pub mod Tells
+pub mod UnitParts
+pub mod ListOf

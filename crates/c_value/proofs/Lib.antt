@@ -1,0 +1,5 @@
+pub mod Arms
+pub mod Bits
+pub mod Calls
+pub mod Members
+pub mod Outcomes

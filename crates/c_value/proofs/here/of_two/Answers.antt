@@ -1,0 +1,10 @@
+-- Of where it stands the rule asks for the closed tags alone.
+use Rattle.std.proofs.Common.{subst}
+use Rattle.c_tree.specs.RuleExprs as r
+use Rattle.c_value.specs.Boxed.{boxed}
+use Rattle.c_scope.specs.Closed.{closed}
+use Rattle.c_scope.specs.Says.{Says}
+use Rattle.c_value.proofs.here.of_two.Goals as goal
+
+pub returns : goal.returns
+returns c = subst (λ ts. Says boxed (r.binary (closed ts) c.args.op (boxed c.args.a) (boxed c.args.b)) c.binary.result) c.tags.ensures.value c.binary.ensures

@@ -1,0 +1,6 @@
+pub mod Taken
+pub mod Boxed
+pub mod OfValues
+pub mod Numbers
+pub mod MemberOf
+pub mod Arguments

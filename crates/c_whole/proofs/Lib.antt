@@ -1,0 +1,15 @@
+mod Accepted
+mod AnyFact
+mod Differ
+mod FirstGroup
+mod FitRows
+mod FoldStep
+mod InOrder
+mod Inside
+mod Numbers
+mod Placed
+mod Replace
+mod Rows
+mod SameClass
+mod SameFacts
+mod WholeRefusal

@@ -1,0 +1,10 @@
+-- What is left decides.
+use Rattle.std.proofs.Common.{◌≡◌, map, drop}
+use Rattle.c_tree.specs.JoinChecks as s
+use Rattle.c_tree.specs.TypedOf.{unit_of}
+use Rattle.c_whole.specs.Types.{classes_of}
+use Rattle.c_whole.specs.Groups.{groups_of, first_group}
+use Rattle.c_whole.proofs.first.first_misfit.Given as goal
+
+abbrev pub invariant-loop-group : goal.invariant-loop-group
+invariant-loop-group l = first_group (s.is_misfit (map unit_of l.whole.units.now) (s.same_class (classes_of l.whole.classes))) (groups_of (drop l.group-index l.groups)) ≡ first_group (s.is_misfit (map unit_of l.whole.units.now) (s.same_class (classes_of l.whole.classes))) (groups_of l.groups)

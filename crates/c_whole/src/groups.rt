@@ -1,0 +1,55 @@
+// What is said of each name of a program.
+ghost use Rattle.std.specs.Prelude.{◌≡◌, IfOk, OnOk, map};
+ghost use Rattle.std.specs.List.{position_or_len};
+ghost use Rattle.indexmap.specs.IndexSet.{insert_key};
+ghost use Rattle.c_tree.specs.JoinChecks.{same_subject};
+ghost use Rattle.c_whole.specs.Facts.{subject_of, fact_of, facts_of};
+ghost use Rattle.c_whole.specs.Groups.{same_name, groups_of, placed, grouped};
+
+use crate::facts::{Fact, Subject};
+use indexmap::IndexSet;
+use std::alloc::{AllocError, Global};
+
+/// A name, and what is said of it.
+#[derive(Drop)]
+pub struct Group<'a> {
+    pub subject: Subject<'a>,
+    pub facts: Vec<Fact<'a>>,
+}
+
+/// Puts a fact with those of its name, which stand at this index, or behind all where the name is new.
+fn place<'a>(
+    alloc: Global,
+    groups: &mut Vec<Group<'a>>,
+    index: usize,
+    fact: Fact<'a>,
+) -> Result<(), AllocError>
+    requires found { index ≡ position_or_len (same_subject (subject_of fact.about)) (map (λ g. subject_of g.subject) groups.old.items) }
+    ensures placed { OnOk result (groups_of groups.new.items ≡ placed (groups_of groups.old.items) (fact_of fact.entry)) }
+    ensures names { OnOk result (map (λ g. g.subject) groups.new.items ≡ insert_key same_name (map (λ g. g.subject) groups.old.items) fact.entry.about) }
+{
+    if index < groups.len() {
+        groups[index].facts.push(fact)?;
+    } else {
+        let mut facts = Vec::new(alloc);
+        facts.push(fact)?;
+        groups.push(Group {
+            subject: fact.about,
+            facts,
+        })?;
+    }
+    Ok(())
+}
+
+/// The names in order of first mention, each with what is said of it.
+pub fn groups<'a>(alloc: Global, facts: &[Fact<'a>]) -> Result<Vec<Group<'a>>, AllocError>
+    ensures groups { IfOk result (λ v. groups_of v.items ≡ grouped (facts_of facts.now)) }
+{
+    let mut names = IndexSet::new(alloc);
+    let mut groups = Vec::new(alloc);
+    for fact in facts {
+        let (index, _) = names.insert_full(fact.about)?;
+        place(alloc, &mut groups, index, *fact)?;
+    }
+    Ok(groups)
+}
