@@ -76,8 +76,16 @@ const TYPES: [(&str, u8, u32); 21] = [
     ("int\na[2][];", 5, 2),
     ("int f()[2];", 6, 1),
     ("extern int a[]; main() { return sizeof a; }", 5, 1),
-    ("extern int a[]; int b[] = { 1, 2 }; char c[] = \"abc\";", 0, 0),
-    ("f(a) int a[]; { } extern int e[]; int e[4]; main() { return sizeof e; }", 0, 0),
+    (
+        "extern int a[]; int b[] = { 1, 2 }; char c[] = \"abc\";",
+        0,
+        0,
+    ),
+    (
+        "f(a) int a[]; { } extern int e[]; int e[4]; main() { return sizeof e; }",
+        0,
+        0,
+    ),
     ("struct s { int m; }; struct s f() { }", 6, 1),
     ("int (*f())[3] { }", 6, 1),
     ("char *f() { } enum e { A }; enum e g() { }", 0, 0),
@@ -103,7 +111,11 @@ const PARTS: [(&str, u8, u32); 13] = [
     ("int x; int a[x];", 9, 1),
     ("int a[1 / 0];", 9, 1),
     ("enum e { A = -2147483647 - 1, B = A / -1 };", 9, 1),
-    ("enum e { A = 3, B }; int a[B ? sizeof(int) : 2], b[(char) 'a' << 1];", 0, 0),
+    (
+        "enum e { A = 3, B }; int a[B ? sizeof(int) : 2], b[(char) 'a' << 1];",
+        0,
+        0,
+    ),
     ("int a['b' - 96]; enum e { A = !sizeof a };", 0, 0),
 ];
 
@@ -119,8 +131,16 @@ const INITIALISERS: [(&str, u8, u32); 12] = [
     ("int a[2] = { 1, 2,\n3 };", 10, 1),
     ("int a[1] = 1;", 10, 1),
     ("char *p = 1;", 10, 1),
-    ("int x; int *p = &x; char *t = \"abc\"; main() { } int (*f)() = main;", 0, 0),
-    ("struct s { int a, b[2]; } v = { 1, { 2, 3 } }; char c[3] = \"abc\";", 0, 0),
+    (
+        "int x; int *p = &x; char *t = \"abc\"; main() { } int (*f)() = main;",
+        0,
+        0,
+    ),
+    (
+        "struct s { int a, b[2]; } v = { 1, { 2, 3 } }; char c[3] = \"abc\";",
+        0,
+        0,
+    ),
     ("main() { int a[2] = { 1, 2 }; }", 11, 1),
     ("main() { extern int x = 1; }", 11, 1),
     ("int f() = 1;", 11, 1),
@@ -151,11 +171,19 @@ const OPERATORS: [(&str, u8, u32); 24] = [
     ("int a[3]; main() { return &a[1] <= a || 'a' > 3; }", 0, 0),
     ("main() { if ((void) 1) ; }", 15, 1),
     ("main() { for (; (void) 1; ) ; }", 15, 1),
-    ("int *p; main() { while (p) p = 0; do ; while (!p && 1); }", 0, 0),
+    (
+        "int *p; main() { while (p) p = 0; do ; while (!p && 1); }",
+        0,
+        0,
+    ),
     ("int f(); main() { if (f) ; return !f || \"a\"; }", 0, 0),
     ("int *p; main() { 1 ? p : 1; }", 16, 1),
     ("main() { 1 ? (void) 1 : 1; }", 16, 1),
-    ("int *p; main() { 1 ? p : 0; 1 ? (void) 1 : (void) p; }", 0, 0),
+    (
+        "int *p; main() { 1 ? p : 0; 1 ? (void) 1 : (void) p; }",
+        0,
+        0,
+    ),
     ("int f(); main() { return 1 ? 'a' : f ? 2 : 3; }", 0, 0),
     ("main() { *1; }", 17, 1),
     ("main() { &1; }", 17, 1),
@@ -177,7 +205,11 @@ const PLACES: [(&str, u8, u32); 22] = [
     ("int *p; main() { return p[-1]; }", 0, 0),
     ("struct s { int m; } v; main() { v.n; }", 19, 1),
     ("int i; main() { i.m; }", 19, 1),
-    ("struct s { int m; } v; main() { return v.m + (&v)->m; }", 0, 0),
+    (
+        "struct s { int m; } v; main() { return v.m + (&v)->m; }",
+        0,
+        0,
+    ),
     ("struct s { struct s *n; } v; main() { v.n->n = &v; }", 0, 0),
     ("int i; main() { i(); }", 20, 1),
     ("void f(); main() { f(f()); }", 20, 1),
@@ -186,13 +218,33 @@ const PLACES: [(&str, u8, u32); 22] = [
     ("main() { 1 = 2; }", 21, 1),
     ("int a[2]; main() { a = 0; }", 21, 1),
     ("enum e { A } x; main() { x++; }", 21, 1),
-    ("struct s { int m; } v, w; main() { v = w; main()++; }", 21, 1),
-    ("int *p; struct s { int m; } v, w; main() { v = w; p += 1; p++; *p |= 1; }", 0, 0),
-    ("char *t; main() { int i; t = 0; t = \"a\"; --*t; i = *t = i; }", 0, 0),
+    (
+        "struct s { int m; } v, w; main() { v = w; main()++; }",
+        21,
+        1,
+    ),
+    (
+        "int *p; struct s { int m; } v, w; main() { v = w; p += 1; p++; *p |= 1; }",
+        0,
+        0,
+    ),
+    (
+        "char *t; main() { int i; t = 0; t = \"a\"; --*t; i = *t = i; }",
+        0,
+        0,
+    ),
     ("int *p; main() { (char *) p; }", 22, 1),
     ("main() { (int *) 1; }", 22, 1),
-    ("int *p; main() { (char) 300; (int *) 0; (int *) p; (void) \"a\"; }", 0, 0),
-    ("enum e { A } x; main() { return (enum e) 1 + (long) x; }", 0, 0),
+    (
+        "int *p; main() { (char) 300; (int *) 0; (int *) p; (void) \"a\"; }",
+        0,
+        0,
+    ),
+    (
+        "enum e { A } x; main() { return (enum e) 1 + (long) x; }",
+        0,
+        0,
+    ),
 ];
 
 #[test]
@@ -212,9 +264,21 @@ const STATEMENTS: [(&str, u8, u32); 12] = [
     ("main() { switch (1) { case 1: case 1: ; } }", 24, 1),
     ("main() { switch (1) { default: default: ; } }", 24, 1),
     ("main() { switch (main) { } }", 24, 1),
-    ("main() { while (1) { switch (2) { continue; } break; } }", 0, 0),
-    ("main() { switch ('a') { case 255: case -1: ; default: break; } }", 0, 0),
-    ("main() { for (;;) { do break; while (1); continue; } }", 0, 0),
+    (
+        "main() { while (1) { switch (2) { continue; } break; } }",
+        0,
+        0,
+    ),
+    (
+        "main() { switch ('a') { case 255: case -1: ; default: break; } }",
+        0,
+        0,
+    ),
+    (
+        "main() { for (;;) { do break; while (1); continue; } }",
+        0,
+        0,
+    ),
 ];
 
 #[test]
