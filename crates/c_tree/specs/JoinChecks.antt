@@ -140,9 +140,9 @@ abbrev pub some_differ : Relation → List TypeIn → Bool
 some_differ r [] = false
 some_differ r (t ∷ ts) = list_any (differ r t) ts || some_differ r ts
 
--- two declarations of an external name differ in type
+-- two declarations of a name differ in type
 abbrev pub is_clash : Relation → Subject → List Fact → Bool
-is_clash r s fs = is_external s && some_differ r (declared_types s fs)
+is_clash r s fs = some_differ r (declared_types s fs)
 
 -- Arguments
 

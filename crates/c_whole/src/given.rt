@@ -188,10 +188,10 @@ impl<'a> Classes<'a> {
 }
 
 impl<'a> Group<'a> {
-    /// Whether two declarations of an external name differ in type.
+    /// Whether two declarations of a name differ in type.
     pub fn is_clash(&self, classes: Classes<'_>) -> bool
         ensures { result ≡ s.is_clash (s.same_class (classes_of classes.entry)) (group_of self.now).subject (group_of self.now).facts }
     {
-        self.subject.is_external() && classes.some_differ(self.subject.first_type(), &self.facts)
+        classes.some_differ(self.subject.first_type(), &self.facts)
     }
 }

@@ -34,7 +34,7 @@ pub enum JoinErr {
     Twice(Name),
     /// A name is used and defined nowhere.
     Undefined(Name),
-    /// An external name is declared with two types.
+    /// A name is declared with two types.
     Clash(Name),
     /// A call by name doesn't fit the function's definition, or `main` has parameters.
     Arguments(Name),
