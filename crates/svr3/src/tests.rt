@@ -306,6 +306,16 @@ fn a_check_of_the_join_that_fails_is_named(rt: HostRuntime) -> Result<(), Fail> 
 }
 
 #[test]
+fn a_static_function_has_one_type(rt: HostRuntime) -> Result<(), Fail> {
+    let alloc = rt.alloc();
+    let other = b"static f() { return 5; } main() { static char *f(); return *f(); }";
+    says(&rt, alloc, other, b"svr3: refused: clash f\n")?;
+    let same = b"static f() { return 5; } main() { static f(); return f(); }";
+    says(&rt, alloc, same, b"svr3: refused: unbuilt\n")?;
+    Ok(())
+}
+
+#[test]
 fn recursive_structures_of_two_files_agree(rt: HostRuntime) -> Result<(), Fail> {
     let alloc = rt.alloc();
     let first = b"struct n { int v; struct n *next; }; struct n g; main() { }";
