@@ -14,6 +14,7 @@ pub mod Calls
 pub mod Run
 pub mod Checked
 pub mod Stands
+pub mod Outcomes
 pub mod RuleSuits
 pub mod KnownSuits
 pub mod ExprSuits
@@ -33,3 +34,10 @@ pub mod Known
 pub mod Functions
 pub mod Joined
 pub mod Told
+pub mod Counts
+pub mod RuleSays
+pub mod TextOrder
+pub mod Parts
+pub mod BlockParts
+pub mod FileParts
+pub mod UnitParts

@@ -22,7 +22,7 @@ use Rattle.c_tree.specs.declared.expr.BinaryOp.{BinaryOp}
 use Rattle.c_tree.specs.declared.expr.UnaryOp.{UnaryOp}
 use Rattle.c_tree.specs.declared.TBinary.{TBinary}
 use Rattle.c_tree.specs.declared.TBinary.TheVariants.{Mul, Div, Rem, Add, Sub, Shl, Shr, Lt, Gt, Le, Ge, Eq, Ne, BitAnd, BitXor, BitOr}
-use Rattle.c_tree.specs.RuleScope.{Judged, Is, Fails, onward, provided, Env, Meaning, Alias, Constant, Thing, Function, known, is_sized, function_ref}
+use Rattle.c_tree.specs.RuleScope.{Judged, Is, onward, provided, Env, Meaning, Alias, Constant, Thing, Function, known, is_sized, function_ref}
 use Rattle.c_tree.specs.RuleTypes.{is_void, void_is_a_result, is_function, elements_are_objects, functions_return, may_return}
 use Rattle.c_tree.specs.RuleExprs as r
 use Rattle.c_tree.specs.RuleExprs.{is_number, is_structure}
@@ -31,28 +31,7 @@ use Rattle.c_tree.proofs.Suited.{same_is}
 use Rattle.c_sound.specs.Unit.{Declares, IsMeant, AnyText}
 use Rattle.c_sound.proofs.Stands.{void_in_place, IsSane, IsDeclared, IsSaneName, SaneMembers, SaneTags, members_at, function_meant, OptionMeans}
 use Rattle.c_sound.specs.Suits.{Suits, SuitArgs, callee, is_used, is_wide, converts, unary_suits, binary_suits, is_move, compares}
-
--- outcomes
-
--- what a rule gives is as wanted
-abbrev pub Suited : {A : Type 0} → (A → Type 0) → Judged A → Type 0
-Suited P (Is a) = P a
-Suited P (Fails n) = Unit {0}
-
-pub onward_suits : {A B : Type 0} (P : A → Type 0) (Q : B → Type 0) (j : Judged A) (go : A → Judged B) → Suited P j → ((a : A) → P a → Suited Q (go a)) → Suited Q (onward j go)
-onward_suits P Q (Is a) go h f = f a h
-onward_suits P Q (Fails n) go h f = tt
-
-pub provided_suits : {A : Type 0} (P : A → Type 0) (n : ℕ) (b : Bool) (j : Judged A) → (b ≡ true → Suited P j) → Suited P (provided n b j)
-provided_suits P n true j h = h refl
-provided_suits P n false j h = tt
-
-pub pick_suits : {A : Type 0} (P : A → Type 0) (b : Bool) (j k : Judged A) → (b ≡ true → Suited P j) → (b ≡ false → Suited P k) → Suited P (pick b j k)
-pick_suits P true j k h g = h refl
-pick_suits P false j k h g = g refl
-
-pub suited_is : {A : Type 0} (P : A → Type 0) (j : Judged A) (a : A) → Suited P j → j ≡ Is a → P a
-suited_is P j a h q = subst (Suited P) q h
+use Rattle.c_sound.proofs.Outcomes.{Each, onward_each, provided_each, pick_each}
 
 pub both_true : (a b : Bool) → (a && b) ≡ true → (a ≡ true) × (b ≡ true)
 both_true true b h = (refl, h)
@@ -359,7 +338,7 @@ module _ (n : ℕ) (ks : Declares) where
       not_array : is_array (type_of v) ≡ true → ⊥
       not_array e = let q = used_array (type_of v) h.is_used in cc
 
-  used_as_suits : (t : CType) (x : TExpr) → type_of x ≡ t → IsPart x → Suited IsValue (used_as t x)
+  used_as_suits : (t : CType) (x : TExpr) → type_of x ≡ t → IsPart x → Each IsValue (used_as t x)
   used_as_suits (num k) x q h = record { suits = h.suits; sane = h.sane; is_used = rw q refl }
   used_as_suits void x q h = record { suits = h.suits; sane = h.sane; is_used = rw q refl }
   used_as_suits (ptr t) x q h = record { suits = h.suits; sane = h.sane; is_used = rw q refl }
@@ -384,7 +363,7 @@ module _ (n : ℕ) (ks : Declares) where
       object_by (enum k) h = refl
   used_as_suits (fun t) x q h = record { suits = (h.suits, rw q refl, ap ptr (sym q)); sane = subst IsSane q h.sane; is_used = refl }
 
-  pub used_suits : (x : TExpr) → IsPart x → Suited IsValue (used x)
+  pub used_suits : (x : TExpr) → IsPart x → Each IsValue (used x)
   used_suits x h = used_as_suits (type_of x) x refl h
 
   pub record IsScalar (v : TExpr) : Type 0 where
@@ -424,13 +403,13 @@ module _ (n : ℕ) (ks : Declares) where
         wide = subst (λ y. is_wide y ≡ true) (sym q) (wide_wide (type_of v) g);
       }
 
-  pub scalar_suits : (m : ℕ) (x : TExpr) → IsPart x → Suited IsScalar (scalar m x)
+  pub scalar_suits : (m : ℕ) (x : TExpr) → IsPart x → Each IsScalar (scalar m x)
   scalar_suits m x h =
-      onward_suits IsValue IsScalar (used x) _ (used_suits x h) (λ v g. provided_suits IsScalar m (is_scalar (type_of v)) (Is v) (λ q. record { value = g; scalar = q }))
+      onward_each IsValue IsScalar (used x) _ (used_suits x h) (λ v g. provided_each IsScalar m (is_scalar (type_of v)) (Is v) (λ q. record { value = g; scalar = q }))
 
-  pub integer_suits : (m : ℕ) (x : TExpr) → IsPart x → Suited IsWide (integer m x)
+  pub integer_suits : (m : ℕ) (x : TExpr) → IsPart x → Each IsWide (integer m x)
   integer_suits m x h =
-      onward_suits IsValue IsWide (used x) _ (used_suits x h) (λ v g. provided_suits IsWide m (is_integer (type_of v)) (Is (widen v)) (λ q. widen_wide v g q))
+      onward_each IsValue IsWide (used x) _ (used_suits x h) (λ v g. provided_each IsWide m (is_integer (type_of v)) (Is (widen v)) (λ q. widen_wide v g q))
 
   wide_integer_value : (v : TExpr) → IsWide v → IsInteger v
   wide_integer_value v h = record { value = h.value; integer = h.integer }
@@ -438,13 +417,13 @@ module _ (n : ℕ) (ks : Declares) where
   -- two operands
 
   two_used : (F : TExpr → TExpr → Judged TExpr) (x y : TExpr) → IsPart x → IsPart y →
-      ((v w : TExpr) → IsValue v → IsValue w → Suited IsPart (F v w)) → Suited IsPart (onward (used x) (λ v. onward (used y) (F v)))
-  two_used F x y hx hy f = onward_suits IsValue IsPart (used x) _ (used_suits x hx) (λ v g. onward_suits IsValue IsPart (used y) (F v) (used_suits y hy) (λ w k. f v w g k))
+      ((v w : TExpr) → IsValue v → IsValue w → Each IsPart (F v w)) → Each IsPart (onward (used x) (λ v. onward (used y) (F v)))
+  two_used F x y hx hy f = onward_each IsValue IsPart (used x) _ (used_suits x hx) (λ v g. onward_each IsValue IsPart (used y) (F v) (used_suits y hy) (λ w k. f v w g k))
 
   two_integers : (F : TExpr → TExpr → Judged TExpr) (m : ℕ) (x y : TExpr) → IsPart x → IsPart y →
-      ((v w : TExpr) → IsWide v → IsWide w → Suited IsPart (F v w)) → Suited IsPart (onward (integer m x) (λ v. onward (integer m y) (F v)))
+      ((v w : TExpr) → IsWide v → IsWide w → Each IsPart (F v w)) → Each IsPart (onward (integer m x) (λ v. onward (integer m y) (F v)))
   two_integers F m x y hx hy f =
-      onward_suits IsWide IsPart (integer m x) _ (integer_suits m x hx) (λ v g. onward_suits IsWide IsPart (integer m y) (F v) (integer_suits m y hy) (λ w k. f v w g k))
+      onward_each IsWide IsPart (integer m x) _ (integer_suits m x hx) (λ v g. onward_each IsWide IsPart (integer m y) (F v) (integer_suits m y hy) (λ w k. f v w g k))
 
   binary_part : (t : CType) (op : TBinary) (v w : TExpr) → IsValue v → IsValue w → IsSane t → is_used t ≡ true → binary_suits t op (type_of v) (type_of w) ≡ true →
       IsPart (e.binary t op v w)
@@ -482,35 +461,35 @@ module _ (n : ℕ) (ks : Declares) where
       let p = both_true (is_integer (type_of v)) (is_integer (type_of w)) q in
       f (widen v) (widen w) (wide_integer_value (widen v) (widen_wide v h p.0)) (wide_integer_value (widen w) (widen_wide w g p.1))
 
-  pub arithmetic_suits : (op : TBinary) (x y : TExpr) → IsPart x → IsPart y → Suited IsPart (r.arithmetic op x y)
+  pub arithmetic_suits : (op : TBinary) (x y : TExpr) → IsPart x → IsPart y → Each IsPart (r.arithmetic op x y)
   arithmetic_suits op x y hx hy = two_integers _ 12 x y hx hy (λ v w h g. met_part op v w (wide_integer_value v h) (wide_integer_value w g))
 
-  pub shift_suits : (op : TBinary) (x y : TExpr) → IsPart x → IsPart y → Suited IsPart (r.shift op x y)
+  pub shift_suits : (op : TBinary) (x y : TExpr) → IsPart x → IsPart y → Each IsPart (r.shift op x y)
   shift_suits op x y hx hy =
       two_integers _ 12 x y hx hy (λ v w h g.
       binary_part (type_of v) op v w h.value g.value h.value.sane h.value.is_used (both_integers (type_of v) op (type_of v) (type_of w) h.integer g.integer h.wide))
 
   moved_part : (c : Env) (op : TBinary) (v w : TExpr) → is_move op ≡ true → IsValue v → IsValue w → (is_object_pointer (type_of v) && is_integer (type_of w)) ≡ true →
-      Suited IsPart (r.pointer_and_integer c op v w)
+      Each IsPart (r.pointer_and_integer c op v w)
   moved_part c op v w m h g q =
       let p = both_true (is_object_pointer (type_of v)) (is_integer (type_of w)) q in
       let k = widen_wide w g p.1 in
-      provided_suits IsPart 3 (target_is_sized c (type_of v)) _ (λ z.
+      provided_each IsPart 3 (target_is_sized c (type_of v)) _ (λ z.
       binary_part (type_of v) op v (widen w) h k.value h.sane h.is_used (moved_suits op (type_of v) (type_of (widen w)) p.0 k.integer m))
 
-  pub sum_suits : (c : Env) (x y : TExpr) → IsPart x → IsPart y → Suited IsPart (r.sum c x y)
+  pub sum_suits : (c : Env) (x y : TExpr) → IsPart x → IsPart y → Each IsPart (r.sum c x y)
   sum_suits c x y hx hy =
       two_used _ x y hx hy (λ v w h g.
-      pick_suits IsPart (are_integers v w) _ _ (λ q. widened_part (r.met Add) v w h g q (met_part Add)) (λ q.
-      pick_suits IsPart (is_object_pointer (type_of v) && is_integer (type_of w)) _ _ (λ q. moved_part c Add v w refl h g q) (λ q.
-      pick_suits IsPart (is_integer (type_of v) && is_object_pointer (type_of w)) _ _ (λ q. added v w h g q) (λ q. tt))))
+      pick_each IsPart (are_integers v w) _ _ (λ q. widened_part (r.met Add) v w h g q (met_part Add)) (λ q.
+      pick_each IsPart (is_object_pointer (type_of v) && is_integer (type_of w)) _ _ (λ q. moved_part c Add v w refl h g q) (λ q.
+      pick_each IsPart (is_integer (type_of v) && is_object_pointer (type_of w)) _ _ (λ q. added v w h g q) (λ q. tt))))
     where
       added : (v w : TExpr) → IsValue v → IsValue w → (is_integer (type_of v) && is_object_pointer (type_of w)) ≡ true →
-          Suited IsPart (provided 3 (target_is_sized c (type_of w)) (Is (e.binary (type_of w) Add (widen v) w)))
+          Each IsPart (provided 3 (target_is_sized c (type_of w)) (Is (e.binary (type_of w) Add (widen v) w)))
       added v w h g q =
           let p = both_true (is_integer (type_of v)) (is_object_pointer (type_of w)) q in
           let k = widen_wide v h p.0 in
-          provided_suits IsPart 3 (target_is_sized c (type_of w)) _ (λ z.
+          provided_each IsPart 3 (target_is_sized c (type_of w)) _ (λ z.
           binary_part (type_of w) Add (widen v) w k.value g g.sane g.is_used (added_suits (type_of (widen v)) (type_of w) k.integer p.1))
 
   -- two pointers of one type
@@ -525,19 +504,19 @@ module _ (n : ℕ) (ks : Declares) where
       let a = both_true (is_pointer (type_of v)) (same_type (type_of v) (type_of w)) p.1 in
       alike_part op v w h g a.0 a.1 (subst (λ b. compares op b ≡ true) (sym p.0) k)
 
-  pub difference_suits : (c : Env) (x y : TExpr) → IsPart x → IsPart y → Suited IsPart (r.difference c x y)
+  pub difference_suits : (c : Env) (x y : TExpr) → IsPart x → IsPart y → Each IsPart (r.difference c x y)
   difference_suits c x y hx hy =
       two_used _ x y hx hy (λ v w h g.
-      pick_suits IsPart (are_integers v w) _ _ (λ q. widened_part (r.met Sub) v w h g q (met_part Sub)) (λ q.
-      pick_suits IsPart (is_object_pointer (type_of v) && is_integer (type_of w)) _ _ (λ q. moved_part c Sub v w refl h g q) (λ q.
-      pick_suits IsPart (is_object_pointer (type_of v) && are_alike v w) _ _ (λ q.
-      provided_suits IsPart 3 (target_is_sized c (type_of v)) _ (λ z. objects_part Sub v w refl h g q)) (λ q. tt))))
+      pick_each IsPart (are_integers v w) _ _ (λ q. widened_part (r.met Sub) v w h g q (met_part Sub)) (λ q.
+      pick_each IsPart (is_object_pointer (type_of v) && is_integer (type_of w)) _ _ (λ q. moved_part c Sub v w refl h g q) (λ q.
+      pick_each IsPart (is_object_pointer (type_of v) && are_alike v w) _ _ (λ q.
+      provided_each IsPart 3 (target_is_sized c (type_of v)) _ (λ z. objects_part Sub v w refl h g q)) (λ q. tt))))
 
-  pub order_suits : (op : TBinary) (x y : TExpr) → compares op true ≡ true → IsPart x → IsPart y → Suited IsPart (r.order op x y)
+  pub order_suits : (op : TBinary) (x y : TExpr) → compares op true ≡ true → IsPart x → IsPart y → Each IsPart (r.order op x y)
   order_suits op x y k hx hy =
       two_used _ x y hx hy (λ v w h g.
-      pick_suits IsPart (are_integers v w) _ _ (λ q. widened_part (r.compared op) v w h g q (compared_part op)) (λ q.
-      provided_suits IsPart 14 (is_object_pointer (type_of v) && are_alike v w) _ (λ z. objects_part op v w k h g z)))
+      pick_each IsPart (are_integers v w) _ _ (λ q. widened_part (r.compared op) v w h g q (compared_part op)) (λ q.
+      provided_each IsPart 14 (is_object_pointer (type_of v) && are_alike v w) _ (λ z. objects_part op v w k h g z)))
 
   -- a pointer and the constant 0, which becomes null of its type
   zero_value : (c : Env) (v w : TExpr) → IsValue v → IsValue w → is_with_zero c.tags v w ≡ true → (is_pointer (type_of v) ≡ true) × IsValue (to_type (type_of v) w)
@@ -546,13 +525,13 @@ module _ (n : ℕ) (ks : Declares) where
       let i = (both_true (is_integer (type_of w)) _ p.1).0 in
       (p.0, to_type_value (type_of v) w g (converts_zero (type_of v) (type_of w) p.0 i) h.sane h.is_used)
 
-  pub equality_suits : (c : Env) (op : TBinary) (x y : TExpr) → ((b : Bool) → compares op b ≡ true) → IsPart x → IsPart y → Suited IsPart (r.equality c op x y)
+  pub equality_suits : (c : Env) (op : TBinary) (x y : TExpr) → ((b : Bool) → compares op b ≡ true) → IsPart x → IsPart y → Each IsPart (r.equality c op x y)
   equality_suits c op x y k hx hy =
       two_used _ x y hx hy (λ v w h g.
-      pick_suits IsPart (are_integers v w) _ _ (λ q. widened_part (r.compared op) v w h g q (compared_part op)) (λ q.
-      pick_suits IsPart (are_alike v w) _ _ (λ q. alike v w h g q) (λ q.
-      pick_suits IsPart (is_with_zero c.tags v w) _ _ (λ q. right v w h g q) (λ q.
-      pick_suits IsPart (is_with_zero c.tags w v) _ _ (λ q. left v w h g q) (λ q. tt)))))
+      pick_each IsPart (are_integers v w) _ _ (λ q. widened_part (r.compared op) v w h g q (compared_part op)) (λ q.
+      pick_each IsPart (are_alike v w) _ _ (λ q. alike v w h g q) (λ q.
+      pick_each IsPart (is_with_zero c.tags v w) _ _ (λ q. right v w h g q) (λ q.
+      pick_each IsPart (is_with_zero c.tags w v) _ _ (λ q. left v w h g q) (λ q. tt)))))
     where
       alike : (v w : TExpr) → IsValue v → IsValue w → are_alike v w ≡ true → IsPart (e.binary (num Int) op v w)
       alike v w h g q = let p = both_true (is_pointer (type_of v)) (same_type (type_of v) (type_of w)) q in alike_part op v w h g p.0 p.1 (k (is_object_pointer (type_of v)))
@@ -569,9 +548,9 @@ module _ (n : ℕ) (ks : Declares) where
           let s : type_of w ≡ type_of a = sym (to_type_is (type_of w) v) in
           alike_part op a w p.1 g (subst (λ y. is_pointer y ≡ true) s p.0) (subst (λ y. same_type y (type_of w) ≡ true) s (same_self (type_of w))) (k (is_object_pointer (type_of a)))
 
-  pub two_tests_suit : (make : TExpr → TExpr → TExpr) (x y : TExpr) → ((v w : TExpr) → IsScalar v → IsScalar w → IsPart (make v w)) → IsPart x → IsPart y → Suited IsPart (r.two_tests make x y)
+  pub two_tests_suit : (make : TExpr → TExpr → TExpr) (x y : TExpr) → ((v w : TExpr) → IsScalar v → IsScalar w → IsPart (make v w)) → IsPart x → IsPart y → Each IsPart (r.two_tests make x y)
   two_tests_suit make x y f hx hy =
-      onward_suits IsScalar IsPart (scalar 15 x) _ (scalar_suits 15 x hx) (λ v h. onward_suits IsScalar IsPart (scalar 15 y) _ (scalar_suits 15 y hy) (λ w g. f v w h g))
+      onward_each IsScalar IsPart (scalar 15 x) _ (scalar_suits 15 x hx) (λ v h. onward_each IsScalar IsPart (scalar 15 y) _ (scalar_suits 15 y hy) (λ w g. f v w h g))
 
   pub either_part : (v w : TExpr) → IsScalar v → IsScalar w → IsPart (e.either v w)
   either_part v w h g = value_part (e.either v w) (record { suits = (h.value.suits, g.value.suits, h.scalar, g.scalar); sane = (refl, refl, refl); is_used = refl })
@@ -579,7 +558,7 @@ module _ (n : ℕ) (ks : Declares) where
   pub both_part : (v w : TExpr) → IsScalar v → IsScalar w → IsPart (e.both v w)
   both_part v w h g = value_part (e.both v w) (record { suits = (h.value.suits, g.value.suits, h.scalar, g.scalar); sane = (refl, refl, refl); is_used = refl })
 
-  pub comma_suits : (x y : TExpr) → IsPart x → IsPart y → Suited IsPart (r.comma x y)
+  pub comma_suits : (x y : TExpr) → IsPart x → IsPart y → Each IsPart (r.comma x y)
   comma_suits x y hx hy =
       two_used _ x y hx hy (λ v w h g.
       value_part (e.comma (type_of w) v w) (record { suits = (h.suits, g.suits, h.is_used, g.is_used, refl); sane = g.sane; is_used = g.is_used }))
@@ -596,14 +575,14 @@ module _ (n : ℕ) (ks : Declares) where
       let g' = met_integer (type_of v) (type_of w) w g in
       choice_part t u (to_type t v) (to_type t w) f h'.value g'.value (to_type_is t v) (to_type_is t w)
 
-  pub choice_suits : (c : Env) (x y z : TExpr) → IsPart x → IsPart y → IsPart z → Suited IsPart (r.choice c x y z)
+  pub choice_suits : (c : Env) (x y z : TExpr) → IsPart x → IsPart y → IsPart z → Each IsPart (r.choice c x y z)
   choice_suits c x y z hx hy hz =
-      onward_suits IsScalar IsPart (scalar 15 x) _ (scalar_suits 15 x hx) (λ u f.
+      onward_each IsScalar IsPart (scalar 15 x) _ (scalar_suits 15 x hx) (λ u f.
       two_used _ y z hy hz (λ v w h g.
-      pick_suits IsPart (are_integers v w) _ _ (λ q. widened_part (chosen u) v w h g q (chosen_part u f)) (λ q.
-      pick_suits IsPart (are_alike v w || (is_void (type_of v) && is_void (type_of w))) _ _ (λ q. alike u v w f h g q) (λ q.
-      pick_suits IsPart (is_with_zero c.tags v w) _ _ (λ q. let p = zero_value c v w h g q in choice_part (type_of v) u v (to_type (type_of v) w) f h p.1 refl (to_type_is (type_of v) w)) (λ q.
-      pick_suits IsPart (is_with_zero c.tags w v) _ _ (λ q. let p = zero_value c w v g h q in choice_part (type_of w) u (to_type (type_of w) v) w f p.1 g (to_type_is (type_of w) v) refl) (λ q. tt))))))
+      pick_each IsPart (are_integers v w) _ _ (λ q. widened_part (chosen u) v w h g q (chosen_part u f)) (λ q.
+      pick_each IsPart (are_alike v w || (is_void (type_of v) && is_void (type_of w))) _ _ (λ q. alike u v w f h g q) (λ q.
+      pick_each IsPart (is_with_zero c.tags v w) _ _ (λ q. let p = zero_value c v w h g q in choice_part (type_of v) u v (to_type (type_of v) w) f h p.1 refl (to_type_is (type_of v) w)) (λ q.
+      pick_each IsPart (is_with_zero c.tags w v) _ _ (λ q. let p = zero_value c w v g h q in choice_part (type_of w) u (to_type (type_of w) v) w f p.1 g (to_type_is (type_of w) v) refl) (λ q. tt))))))
     where
       alike : (u v w : TExpr) → IsScalar u → IsValue v → IsValue w → (are_alike v w || (is_void (type_of v) && is_void (type_of w))) ≡ true → IsPart (e.choice (type_of v) u v w)
       alike u v w f h g q =
@@ -613,10 +592,10 @@ module _ (n : ℕ) (ks : Declares) where
 
   -- one operand
 
-  pub star_suits : (x : TExpr) → IsPart x → Suited IsPart (r.star x)
+  pub star_suits : (x : TExpr) → IsPart x → Each IsPart (r.star x)
   star_suits x hx =
-      onward_suits IsValue IsPart (used x) _ (used_suits x hx) (λ v h.
-      provided_suits IsPart 17 (is_pointer (type_of v)) _ (λ q. at v h (pointer_is (type_of v) q)))
+      onward_each IsValue IsPart (used x) _ (used_suits x hx) (λ v h.
+      provided_each IsPart 17 (is_pointer (type_of v)) _ (λ q. at v h (pointer_is (type_of v) q)))
     where
       at : (v : TExpr) → IsValue v → type_of v ≡ ptr (target (type_of v)) → IsPart (e.deref (target (type_of v)) v)
       at v h q =
@@ -633,10 +612,10 @@ module _ (n : ℕ) (ks : Declares) where
   place_not_void (e.arrow t a m) h p = h.3
   place_not_void _ h p = cc
 
-  pub address_suits : (x : TExpr) → IsPart x → Suited IsPart (r.address x)
+  pub address_suits : (x : TExpr) → IsPart x → Each IsPart (r.address x)
   address_suits x hx =
-      provided_suits IsPart 17 (is_place x || is_function (type_of x)) _ (λ q.
-      provided_suits IsPart 5 (not (is_open (type_of x))) _ (λ z.
+      provided_each IsPart 17 (is_place x || is_function (type_of x)) _ (λ q.
+      provided_each IsPart 5 (not (is_open (type_of x))) _ (λ z.
       let d = or_cases _ (is_place x) (is_function (type_of x)) q (place_not_void x hx.suits) (function_not_void (type_of x)) in
       value_part (e.address (ptr (type_of x)) x) (record {
         suits = (hx.suits, or_turn (is_place x) (is_function (type_of x)) q, refl);
@@ -644,39 +623,39 @@ module _ (n : ℕ) (ks : Declares) where
         is_used = refl;
       })))
 
-  pub negation_suits : (op : TUnary) (x : TExpr) → ((t : CType) → is_wide t ≡ true → unary_suits t op t ≡ true) → IsPart x → Suited IsPart (r.negation op x)
+  pub negation_suits : (op : TUnary) (x : TExpr) → ((t : CType) → is_wide t ≡ true → unary_suits t op t ≡ true) → IsPart x → Each IsPart (r.negation op x)
   negation_suits op x k hx =
-      onward_suits IsWide IsPart (integer 12 x) _ (integer_suits 12 x hx) (λ v h.
+      onward_each IsWide IsPart (integer 12 x) _ (integer_suits 12 x hx) (λ v h.
       value_part (e.unary (type_of v) op v) (record { suits = (h.value.suits, k (type_of v) h.wide); sane = h.value.sane; is_used = h.value.is_used }))
 
-  pub denial_suits : (x : TExpr) → IsPart x → Suited IsPart (r.denial x)
+  pub denial_suits : (x : TExpr) → IsPart x → Each IsPart (r.denial x)
   denial_suits x hx =
-      onward_suits IsScalar IsPart (scalar 15 x) _ (scalar_suits 15 x hx) (λ v h.
+      onward_each IsScalar IsPart (scalar 15 x) _ (scalar_suits 15 x hx) (λ v h.
       value_part (e.unary (num Int) Not v) (record { suits = (h.value.suits, h.scalar); sane = (refl, refl, refl); is_used = refl }))
 
-  pub step_suits : (c : Env) (op : TStep) (x : TExpr) → IsPart x → Suited IsPart (r.step c op x)
+  pub step_suits : (c : Env) (op : TStep) (x : TExpr) → IsPart x → Each IsPart (r.step c op x)
   step_suits c op x hx =
-      provided_suits IsPart 21 (is_place x && (is_number (type_of x) || is_object_pointer (type_of x))) _ (λ q.
-      provided_suits IsPart 3 (target_is_sized c (type_of x)) _ (λ z.
+      provided_each IsPart 21 (is_place x && (is_number (type_of x) || is_object_pointer (type_of x))) _ (λ q.
+      provided_each IsPart 3 (target_is_sized c (type_of x)) _ (λ z.
       let p = both_true (is_place x) (is_number (type_of x) || is_object_pointer (type_of x)) q in
       value_part (e.step (type_of x) op x) (record { suits = (hx.suits, p.0, refl, p.1); sane = hx.sane; is_used = stepped_used (type_of x) p.1 })))
 
-  pub size_of_suits : (c : Env) (x : TExpr) → Suited IsPart (r.size_of c x)
+  pub size_of_suits : (c : Env) (x : TExpr) → Each IsPart (r.size_of c x)
   size_of_suits c x =
-      provided_suits IsPart 5 (not (is_open (type_of x))) _ (λ q.
-      provided_suits IsPart 3 (is_sized (known c) (type_of x)) _ (λ z. value_part (e.size_of x) (record { suits = tt; sane = (refl, refl, refl); is_used = refl })))
+      provided_each IsPart 5 (not (is_open (type_of x))) _ (λ q.
+      provided_each IsPart 3 (is_sized (known c) (type_of x)) _ (λ z. value_part (e.size_of x) (record { suits = tt; sane = (refl, refl, refl); is_used = refl })))
 
-  pub cast_suits : (c : Env) (t : CType) (x : TExpr) → IsSane t → IsPart x → Suited IsPart (r.cast c t x)
+  pub cast_suits : (c : Env) (t : CType) (x : TExpr) → IsSane t → IsPart x → Each IsPart (r.cast c t x)
   cast_suits c t x s hx =
-      onward_suits IsValue IsPart (used x) _ (used_suits x hx) (λ v h.
-      provided_suits IsPart 22 (is_void t || is_taken c t v) _ (λ q.
+      onward_each IsValue IsPart (used x) _ (used_suits x hx) (λ v h.
+      provided_each IsPart 22 (is_void t || is_taken c t v) _ (λ q.
       let p = cast_converts c t v q in value_part (e.cast t v) (record { suits = (h.suits, h.is_used, p.0); sane = s; is_used = p.1 })))
 
-  pub subscript_suits : (c : Env) (x y : TExpr) → IsPart x → IsPart y → Suited IsPart (r.subscript c x y)
+  pub subscript_suits : (c : Env) (x y : TExpr) → IsPart x → IsPart y → Each IsPart (r.subscript c x y)
   subscript_suits c x y hx hy =
       two_used _ x y hx hy (λ v w h g.
-      provided_suits IsPart 18 (is_object_pointer (type_of v) && is_integer (type_of w)) _ (λ q.
-      provided_suits IsPart 3 (target_is_sized c (type_of v)) _ (λ z. at v w h g q)))
+      provided_each IsPart 18 (is_object_pointer (type_of v) && is_integer (type_of w)) _ (λ q.
+      provided_each IsPart 3 (target_is_sized c (type_of v)) _ (λ z. at v w h g q)))
     where
       at : (v w : TExpr) → IsValue v → IsValue w → (is_object_pointer (type_of v) && is_integer (type_of w)) ≡ true → IsPart (e.index (target (type_of v)) v (widen w))
       at v w h g q =
@@ -689,18 +668,18 @@ module _ (n : ℕ) (ks : Declares) where
   -- members
 
   found_suits : (ms : List Member) (k m : ℕ) (x : Name) (make : ℕ → CType → TExpr) → SaneMembers k ms → ((i : ℕ) (t : CType) → is_function t ≡ false → IsDeclared t → IsPart (make i t)) →
-      Suited IsPart (r.with_member (r.member_from m ms x) make)
+      Each IsPart (r.with_member (r.member_from m ms x) make)
   found_suits [] k m x make h f = tt
   found_suits (y ∷ ys) k m x make h f = case_of (same_name x y.name) (found_suits ys k (suc m) x make h.3 f)
     where
-      case_of : (b : Bool) → Suited IsPart (r.with_member (r.member_from (suc m) ys x) make) → Suited IsPart (r.with_member (pick b (Some (m, y.ty)) (r.member_from (suc m) ys x)) make)
+      case_of : (b : Bool) → Each IsPart (r.with_member (r.member_from (suc m) ys x) make) → Each IsPart (r.with_member (pick b (Some (m, y.ty)) (r.member_from (suc m) ys x)) make)
       case_of true g = f m y.ty h.0 h.1
       case_of false g = g
 
   member_suits : (c : Env) (t : CType) (x : Name) (make : ℕ → CType → TExpr) → SaneTags 0 c.tags →
-      ((k : ℕ) → t ≡ struct k → (i : ℕ) (u : CType) → is_function u ≡ false → IsDeclared u → IsPart (make i u)) → Suited IsPart (r.member_of c t x make)
+      ((k : ℕ) → t ≡ struct k → (i : ℕ) (u : CType) → is_function u ≡ false → IsDeclared u → IsPart (make i u)) → Each IsPart (r.member_of c t x make)
   member_suits c (struct k) x make h f =
-      provided_suits IsPart 3 (is_sized (known c) (struct k)) _ (λ q. found_suits (at_or no_tag c.tags k).members (0 + k) 0 x make (members_at 0 k c.tags h) (f k refl))
+      provided_each IsPart 3 (is_sized (known c) (struct k)) _ (λ q. found_suits (at_or no_tag c.tags k).members (0 + k) 0 x make (members_at 0 k c.tags h) (f k refl))
   member_suits c (num k) x make h f = tt
   member_suits c void x make h f = tt
   member_suits c (ptr t) x make h f = tt
@@ -709,32 +688,32 @@ module _ (n : ℕ) (ks : Declares) where
   member_suits c (enum k) x make h f = tt
   member_suits c (fun t) x make h f = tt
 
-  pub dot_suits : (c : Env) (x : TExpr) (y : Name) → SaneTags 0 c.tags → IsPart x → Suited IsPart (r.dot c x y)
+  pub dot_suits : (c : Env) (x : TExpr) (y : Name) → SaneTags 0 c.tags → IsPart x → Each IsPart (r.dot c x y)
   dot_suits c x y h hx =
-      provided_suits IsPart 19 (is_place x) _ (λ p.
+      provided_each IsPart 19 (is_place x) _ (λ p.
       member_suits c (type_of x) y (λ m t. e.member t x m) h (λ k q i u f s. record { suits = (hx.suits, p, f, s.1); sane = s.0; placed = λ a. refl }))
 
-  pub arrow_suits : (c : Env) (x : TExpr) (y : Name) → SaneTags 0 c.tags → IsPart x → Suited IsPart (r.arrow c x y)
+  pub arrow_suits : (c : Env) (x : TExpr) (y : Name) → SaneTags 0 c.tags → IsPart x → Each IsPart (r.arrow c x y)
   arrow_suits c x y h hx =
-      onward_suits IsValue IsPart (used x) _ (used_suits x hx) (λ v g.
-      provided_suits IsPart 19 (is_pointer (type_of v)) _ (λ p.
+      onward_each IsValue IsPart (used x) _ (used_suits x hx) (λ v g.
+      provided_each IsPart 19 (is_pointer (type_of v)) _ (λ p.
       member_suits c (target (type_of v)) y (λ m t. e.arrow t v m) h (λ k q i u f s.
       record { suits = (g.suits, to_structure (type_of v) k p q, f, s.1); sane = s.0; placed = λ a. refl })))
 
   -- assignments
 
-  pub taken_suits : (m : ℕ) (c : Env) (t : CType) (w : TExpr) → IsSane t → IsValue w → Suited (IsTaken t) (taken m c t w)
+  pub taken_suits : (m : ℕ) (c : Env) (t : CType) (w : TExpr) → IsSane t → IsValue w → Each (IsTaken t) (taken m c t w)
   taken_suits m c t w s h =
-      provided_suits (IsTaken t) m (is_taken c t w) _ (λ q.
+      provided_each (IsTaken t) m (is_taken c t w) _ (λ q.
       let p = taken_by t (type_of w) _ q in record { value = to_type_value t w h p.0 s (scalar_used t p.1); is_type = to_type_is t w; scalar = p.1 })
 
-  pub value_for_suits : (m : ℕ) (c : Env) (t : CType) (x : TExpr) → IsSane t → IsPart x → Suited (IsTaken t) (value_for m c t x)
-  value_for_suits m c t x s hx = onward_suits IsValue (IsTaken t) (used x) _ (used_suits x hx) (λ w h. taken_suits m c t w s h)
+  pub value_for_suits : (m : ℕ) (c : Env) (t : CType) (x : TExpr) → IsSane t → IsPart x → Each (IsTaken t) (value_for m c t x)
+  value_for_suits m c t x s hx = onward_each IsValue (IsTaken t) (used x) _ (used_suits x hx) (λ w h. taken_suits m c t w s h)
 
-  copied_suits : (c : Env) (x y : TExpr) → is_place x ≡ true → is_structure (type_of x) ≡ true → IsPart x → IsPart y → Suited IsPart (r.copied c x y)
+  copied_suits : (c : Env) (x y : TExpr) → is_place x ≡ true → is_structure (type_of x) ≡ true → IsPart x → IsPart y → Each IsPart (r.copied c x y)
   copied_suits c x y p k hx hy =
-      provided_suits IsPart 21 (is_place y && same_type (type_of x) (type_of y)) _ (λ q.
-      provided_suits IsPart 3 (is_sized (known c) (type_of x)) _ (λ z.
+      provided_each IsPart 21 (is_place y && same_type (type_of x) (type_of y)) _ (λ q.
+      provided_each IsPart 3 (is_sized (known c) (type_of x)) _ (λ z.
       value_part (e.assign void x y) (record {
         suits = (hx.suits, hy.suits, p, copies (type_of x) k (both_true (is_place y) _ q).0);
         sane = (refl, refl, refl);
@@ -744,13 +723,13 @@ module _ (n : ℕ) (ks : Declares) where
       copies : (t : CType) → is_structure t ≡ true → is_place y ≡ true → pick (is_structure t) (is_place y && true) (is_scalar t && (same_type t (type_of y) && same_type void t)) ≡ true
       copies t k q = rw (k, q) refl
 
-  pub assign_suits : (c : Env) (x y : TExpr) → IsPart x → IsPart y → Suited IsPart (r.assign c x y)
+  pub assign_suits : (c : Env) (x y : TExpr) → IsPart x → IsPart y → Each IsPart (r.assign c x y)
   assign_suits c x y hx hy =
-      provided_suits IsPart 21 (r.may_be_set x) _ (λ q.
+      provided_each IsPart 21 (r.may_be_set x) _ (λ q.
       let p = both_true (is_place x) (is_scalar (type_of x) || is_structure (type_of x)) q in
-      pick_suits IsPart (is_structure (type_of x)) _ _ (λ k. copied_suits c x y p.0 k hx hy) (λ k.
-      onward_suits IsValue IsPart (used y) _ (used_suits y hy) (λ w h.
-      onward_suits (IsTaken (type_of x)) IsPart (taken 21 c (type_of x) w) _ (taken_suits 21 c (type_of x) w hx.sane h) (λ v g. stored v p.0 k g))))
+      pick_each IsPart (is_structure (type_of x)) _ _ (λ k. copied_suits c x y p.0 k hx hy) (λ k.
+      onward_each IsValue IsPart (used y) _ (used_suits y hy) (λ w h.
+      onward_each (IsTaken (type_of x)) IsPart (taken 21 c (type_of x) w) _ (taken_suits 21 c (type_of x) w hx.sane h) (λ v g. stored v p.0 k g))))
     where
       stores : (t u : CType) (b : Bool) → u ≡ t → is_structure t ≡ false → is_scalar t ≡ true → pick (is_structure t) b (is_scalar t && (same_type t u && same_type t t)) ≡ true
       stores t u b q k g = rw (q, k, g, same_self t) refl
@@ -774,25 +753,25 @@ module _ (n : ℕ) (ks : Declares) where
         is_used = integer_used t p.1;
       })
 
-  pub update_suits : (op : TBinary) (x y : TExpr) → IsPart x → IsPart y → Suited IsPart (r.update op x y)
+  pub update_suits : (op : TBinary) (x y : TExpr) → IsPart x → IsPart y → Each IsPart (r.update op x y)
   update_suits op x y hx hy =
-      provided_suits IsPart 21 (is_place x && is_integer (type_of x)) _ (λ q.
-      onward_suits IsWide IsPart (integer 21 y) _ (integer_suits 21 y hy) (λ w h.
+      provided_each IsPart 21 (is_place x && is_integer (type_of x)) _ (λ q.
+      onward_each IsWide IsPart (integer 21 y) _ (integer_suits 21 y hy) (λ w h.
       let a = wide (type_of x) in
       updated_part op (meeting a (type_of w)) x (to_type (meeting a (type_of w)) w) hx q (meeting_integer a (type_of w)) (meeting_wide a (type_of w)) (met_integer a (type_of w) w (wide_integer_value w h))))
 
-  pub update_shift_suits : (op : TBinary) (x y : TExpr) → IsPart x → IsPart y → Suited IsPart (r.update_shift op x y)
+  pub update_shift_suits : (op : TBinary) (x y : TExpr) → IsPart x → IsPart y → Each IsPart (r.update_shift op x y)
   update_shift_suits op x y hx hy =
-      provided_suits IsPart 21 (is_place x && is_integer (type_of x)) _ (λ q.
-      onward_suits IsWide IsPart (integer 21 y) _ (integer_suits 21 y hy) (λ w h.
+      provided_each IsPart 21 (is_place x && is_integer (type_of x)) _ (λ q.
+      onward_each IsWide IsPart (integer 21 y) _ (integer_suits 21 y hy) (λ w h.
       let i = (both_true (is_place x) (is_integer (type_of x)) q).1 in
       updated_part op (wide (type_of x)) x w hx q (wide_integer (type_of x) i) (wide_wide (type_of x) i) (wide_integer_value w h)))
 
-  pub update_sum_suits : (c : Env) (op : TBinary) (x y : TExpr) → is_move op ≡ true → IsPart x → IsPart y → Suited IsPart (r.update_sum c op x y)
+  pub update_sum_suits : (c : Env) (op : TBinary) (x y : TExpr) → is_move op ≡ true → IsPart x → IsPart y → Each IsPart (r.update_sum c op x y)
   update_sum_suits c op x y m hx hy =
-      pick_suits IsPart (is_place x && is_object_pointer (type_of x)) _ _ (λ q.
-      onward_suits IsWide IsPart (integer 21 y) _ (integer_suits 21 y hy) (λ w h.
-      provided_suits IsPart 3 (target_is_sized c (type_of x)) _ (λ z. moved w q h))) (λ q. update_suits op x y hx hy)
+      pick_each IsPart (is_place x && is_object_pointer (type_of x)) _ _ (λ q.
+      onward_each IsWide IsPart (integer 21 y) _ (integer_suits 21 y hy) (λ w h.
+      provided_each IsPart 3 (target_is_sized c (type_of x)) _ (λ z. moved w q h))) (λ q. update_suits op x y hx hy)
     where
       moved : (w : TExpr) → (is_place x && is_object_pointer (type_of x)) ≡ true → IsWide w → IsPart (e.update (type_of x) op (type_of x) x w)
       moved w q h =
@@ -812,11 +791,11 @@ module _ (n : ℕ) (ks : Declares) where
     pub part : IsPart x
     pub gives : callee (type_of x) ≡ fun (r.result_of (type_of x))
 
-  pub called_suits : (x : TExpr) → IsPart x → Suited IsCallee (r.called x)
+  pub called_suits : (x : TExpr) → IsPart x → Each IsCallee (r.called x)
   called_suits x hx =
-      pick_suits IsCallee (is_function (type_of x)) _ _ (λ q. record { part = hx; gives = called_function (type_of x) q }) (λ q.
-      onward_suits IsValue IsCallee (used x) _ (used_suits x hx) (λ v h.
-      provided_suits IsCallee 20 (r.is_function_pointer (type_of v)) _ (λ p. record { part = value_part v h; gives = called_pointer (type_of v) p })))
+      pick_each IsCallee (is_function (type_of x)) _ _ (λ q. record { part = hx; gives = called_function (type_of x) q }) (λ q.
+      onward_each IsValue IsCallee (used x) _ (used_suits x hx) (λ v h.
+      provided_each IsCallee 20 (r.is_function_pointer (type_of v)) _ (λ p. record { part = value_part v h; gives = called_pointer (type_of v) p })))
 
   pub call_part : (f : TExpr) (es : TArgs) → IsCallee f → SuitArgs true (IsMeant n ks) AnyText es → IsPart (e.call (r.result_of (type_of f)) f es)
   call_part f es h g =
@@ -829,20 +808,20 @@ module _ (n : ℕ) (ks : Declares) where
   name_part : (t : CType) (q : Ref) → IsSaneName n ks t q → IsPart (e.name t q)
   name_part t q h = record { suits = (h.0, h.1.1); sane = h.1.0; placed = λ k. array_variable n ks t q k h.0 }
 
-  pub as_expr_suits : (o : Option Meaning) → OptionMeans (IsSaneName n ks) o → Suited IsPart (r.as_expr o)
+  pub as_expr_suits : (o : Option Meaning) → OptionMeans (IsSaneName n ks) o → Each IsPart (r.as_expr o)
   as_expr_suits None h = tt
   as_expr_suits (Some (Alias t)) h = tt
   as_expr_suits (Some (Constant m)) h = name_part (num Int) (e.Const m) (refl, ((refl, refl, refl), refl))
   as_expr_suits (Some (Thing q t)) h = name_part t q h.1
   as_expr_suits (Some (Function s q t)) h = name_part t q h.1
 
-  pub called_name_suits : (c : Env) (x : Name) (o : Option Meaning) → length c.bodies ≡ n → OptionMeans (IsSaneName n ks) o → Suited IsPart (r.called_name c x o)
+  pub called_name_suits : (c : Env) (x : Name) (o : Option Meaning) → length c.bodies ≡ n → OptionMeans (IsSaneName n ks) o → Each IsPart (r.called_name c x o)
   called_name_suits c x None q h = name_part (fun (num Int)) (function_ref c false x) (function_meant n ks c false x (fun (num Int)) q refl, ((refl, refl, refl), refl))
   called_name_suits c x (Some m) q h = as_expr_suits (Some m) h
 
   -- by the words of operators
 
-  pub binary_rule_suits : (c : Env) (op : BinaryOp) (x y : TExpr) → IsPart x → IsPart y → Suited IsPart (r.binary c op x y)
+  pub binary_rule_suits : (c : Env) (op : BinaryOp) (x y : TExpr) → IsPart x → IsPart y → Each IsPart (r.binary c op x y)
   binary_rule_suits c bo.Either x y h g = two_tests_suit e.either x y either_part h g
   binary_rule_suits c bo.Both x y h g = two_tests_suit e.both x y both_part h g
   binary_rule_suits c bo.Or x y h g = arithmetic_suits BitOr x y h g
@@ -862,7 +841,7 @@ module _ (n : ℕ) (ks : Declares) where
   binary_rule_suits c bo.Div x y h g = arithmetic_suits Div x y h g
   binary_rule_suits c bo.Rem x y h g = arithmetic_suits Rem x y h g
 
-  pub unary_rule_suits : (c : Env) (op : UnaryOp) (x : TExpr) → IsPart x → Suited IsPart (r.unary c op x)
+  pub unary_rule_suits : (c : Env) (op : UnaryOp) (x : TExpr) → IsPart x → Each IsPart (r.unary c op x)
   unary_rule_suits c uo.Deref x h = star_suits x h
   unary_rule_suits c uo.Address x h = address_suits x h
   unary_rule_suits c uo.Neg x h = negation_suits Neg x (λ t k. and_from (is_wide t) (same_type t t) k (same_self t)) h
@@ -871,7 +850,7 @@ module _ (n : ℕ) (ks : Declares) where
   unary_rule_suits c uo.Inc x h = step_suits c PreInc x h
   unary_rule_suits c uo.Dec x h = step_suits c PreDec x h
 
-  pub assignment_suits : (c : Env) (op : AssignOp) (x y : TExpr) → IsPart x → IsPart y → Suited IsPart (r.assignment c op x y)
+  pub assignment_suits : (c : Env) (op : AssignOp) (x y : TExpr) → IsPart x → IsPart y → Each IsPart (r.assignment c op x y)
   assignment_suits c ao.Set x y h g = assign_suits c x y h g
   assignment_suits c ao.Add x y h g = update_sum_suits c Add x y refl h g
   assignment_suits c ao.Sub x y h g = update_sum_suits c Sub x y refl h g

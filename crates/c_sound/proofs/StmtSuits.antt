@@ -25,7 +25,8 @@ use Rattle.c_sound.specs.Unit.{Declares, IsMeant, AnyText, SuitMentions}
 use Rattle.c_sound.specs.Suits.{SuitsHere, SuitsOption, SuitsLocal, SuitLocals, SuitsStmt, SuitStmts, SuitItems, is_used, is_taken_as}
 use Rattle.c_sound.proofs.Means.{Means, ScopesMean}
 use Rattle.c_sound.proofs.Stands.{IsSane, IsDeclared, IsSaneName, Stands, OptionMeans, pick_is, scope_means, function_meant, past_stands, option_stands, started_stands, statics_stand, declr_stands}
-use Rattle.c_sound.proofs.RuleSuits.{is_array, suited_is}
+use Rattle.c_sound.proofs.Outcomes.{each_is}
+use Rattle.c_sound.proofs.RuleSuits.{is_array}
 use Rattle.c_sound.proofs.ExprSuits.{declared_sane, used_gives, scalar_gives, integer_gives, value_gives}
 use Rattle.c_sound.proofs.InitSuits.{begins_suit}
 use Rattle.c_sound.proofs.MentionSuits.{Among, among_parts, both_mention, expr_mentions, option_mentions, declr_mentions, begin_mentions}
@@ -33,7 +34,7 @@ use Rattle.c_sound.proofs.MentionSuits.{Among, among_parts, both_mention, expr_m
 -- types of declarations
 
 pub declr_sane : (c : Env) (m : Option ℕ) (base : CType) (d : ud.Declr) (r : Declr) → IsDeclr c m base d r → IsDeclared r.ty
-declr_sane c m base d r h = suited_is IsDeclared (declared_type c r.ty) r.ty (declared_sane c r.ty) h.1
+declr_sane c m base d r h = each_is IsDeclared (declared_type c r.ty) r.ty (declared_sane c r.ty) h.1
 
 abbrev pub OptionHas : (CType → Type 0) → Option CType → Type 0
 OptionHas P None = Unit {0}

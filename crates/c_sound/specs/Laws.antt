@@ -7,6 +7,7 @@ use Rattle.c_tree.specs.Values.{Stop}
 use Rattle.c_tree.specs.State.{State, Halt, Changes, no_changes}
 use Rattle.c_tree.specs.Context.{linked}
 use Rattle.c_tree.specs.Run.{run}
+use Rattle.c_tree.specs.Numbers.{IsNumbered}
 use Rattle.c_tree.specs.RuleUnit.{IsTyped}
 use Rattle.c_tree.specs.JoinChecks.{IsJoined}
 use Rattle.c_sound.specs.HasType.{AreBytes}
@@ -24,6 +25,10 @@ abbrev pub PlainRunsAreNamed : Type 0
 PlainRunsAreNamed =
     (p : Program) (input : List ℕ) (n : ℕ) (why : Stop) (s : State) →
     SuitsProgram (linked p) → AreBytes input → run p input no_changes n ≡ Halt why s → IsNamed false why
+
+-- the numbers in a typed unit are in textual order
+abbrev pub TypedIsNumbered : Type 0
+TypedIsNumbered = (y : u.Unit) (x : TypedUnit) → IsTyped y x → IsNumbered x
 
 -- what is typed suits
 abbrev pub TypedSuits : Type 0

@@ -3,7 +3,15 @@
 //! The source machine has an outcome, `Leaves 0`, for trees that no checker makes: a value of a wrong type, a name that stands for nothing. Here stand the conditions under which it never comes, and the laws that what the typing rules and the join accept meets them. Each function carries one law.
 #![tactic(auto)]
 
-ghost use Rattle.c_sound.specs.Laws.{TypedSuits, JoinedSuits, SuitedRunsAreNamed, PlainRunsAreNamed, CheckedRunsAreNamed, CheckedRunsEnd};
+ghost use Rattle.c_sound.specs.Laws.{TypedIsNumbered, TypedSuits, JoinedSuits, SuitedRunsAreNamed, PlainRunsAreNamed, CheckedRunsAreNamed, CheckedRunsEnd};
+
+/// The starts and texts of a typed unit count up in textual order, and the automatic objects of each function; a static that is declared again keeps its number.
+#[tactic(auto, using(crate::proofs::UnitParts::typed_is_numbered))]
+pub fn typed_unit_is_numbered()
+    ensures law { TypedIsNumbered }
+{
+    // The law is all that is promised.
+}
 
 /// The typed unit of a unit suits: the types of its parts are those that each operator takes, its names and statics are declared, and its sizes are numbers.
 #[tactic(auto, using(crate::proofs::Units::typed_suits))]
