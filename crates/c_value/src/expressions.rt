@@ -82,8 +82,8 @@ fn call(c: &mut Scopes, line: u32, args: &[Expr], to: Box<TExpr>) -> Result<Box<
 
 /// The typed expression of an expression, which is not yet used as a value.
 ///
-/// An error names the rule that fails first and the line of the operator. Memory too is an error, after which nothing is
-/// said of the scopes. The recursion is as deep as the tree.
+/// An error names the rule that fails first, and a line of which nothing is promised. Memory too is an error, after which
+/// nothing is said of the scopes. The recursion is as deep as the tree.
 #[cycle(expressions)]
 pub fn expr(c: &mut Scopes, e: &Expr) -> Result<Box<TExpr>, TypeErr>
     ensures judged { Says boxed (judged_expr (env_of c.old) (u.expr_of e.now)) result }
