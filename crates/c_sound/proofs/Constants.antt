@@ -13,6 +13,7 @@ use Rattle.c_tree.specs.RuleValues.{is_scalar}
 use Rattle.c_sound.specs.Suits.{is_wide, unary_suits, binary_suits, Suits}
 use Rattle.c_sound.specs.Program.{IsBound, HasText}
 use Rattle.c_sound.proofs.Operators.{both_integers}
+use Rattle.c_sound.proofs.TypeTests.{wide_integer}
 
 -- a number is there
 abbrev HasNumber : Option ℕ → Type 0
@@ -23,10 +24,6 @@ HasNumber (Some n) = Unit {0}
 given_some : (o : Option ℕ) (go : ℕ → Option ℕ) → HasNumber (given o go) → HasNumber o × ((n : ℕ) × HasNumber (go n))
 given_some None go h = absurd h
 given_some (Some n) go h = (tt, (n, h))
-
-pub wide_integer : (t : CType) → is_wide t ≡ true → is_integer t ≡ true
-wide_integer (num k) h = refl
-wide_integer _ h = cc
 
 integer_no_pointer : (t : CType) → is_integer t ≡ true → is_pointer t ≡ false
 integer_no_pointer (num k) h = refl

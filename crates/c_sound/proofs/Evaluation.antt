@@ -28,8 +28,8 @@ use Rattle.c_sound.proofs.Numbers.{one_below}
 use Rattle.c_sound.proofs.Types.{integer_is, number_has, is_pointer_to, wide_has, truth_has, size_below}
 use Rattle.c_sound.proofs.Memory.{load_goes}
 use Rattle.c_sound.proofs.Pointers.{object_target, place_spot}
-use Rattle.c_sound.proofs.Operators.{operate_goes, same_self}
-use Rattle.c_sound.proofs.Constants.{wide_integer}
+use Rattle.c_sound.proofs.Operators.{operate_goes}
+use Rattle.c_sound.proofs.TypeTests.{same_self, wide_integer}
 
 -- types
 
@@ -53,27 +53,14 @@ structure_same (union k) = refl
 structure_same (enum k) = refl
 structure_same (fun t) = refl
 
-pub used_valued : (t : CType) → is_used t ≡ true → is_valued t ≡ true
-used_valued t h = or_left (is_used t) (is_function t) h
-
-pub scalar_valued : (t : CType) → is_scalar t ≡ true → is_valued t ≡ true
-scalar_valued t h = used_valued t (or_left (is_scalar t) (is_void t) h)
-
 pub function_valued : (t : CType) → is_function t ≡ true → is_valued t ≡ true
 function_valued t h = or_right (is_used t) (is_function t) h
-
-pub integer_valued : (t : CType) → is_integer t ≡ true → is_valued t ≡ true
-integer_valued t h = scalar_valued t (or_left (is_integer t) (is_pointer t) h)
 
 pub valued_scalar : (t : CType) → is_valued t ≡ true → is_void t ≡ false → is_function t ≡ false → is_scalar t ≡ true
 valued_scalar (num k) a b d = refl
 valued_scalar (ptr t) a b d = refl
 valued_scalar (enum k) a b d = refl
 valued_scalar _ a b d = cc
-
-pub object_scalar : (t : CType) → is_object_pointer t ≡ true → is_scalar t ≡ true
-object_scalar (ptr t) h = refl
-object_scalar _ h = cc
 
 object_pointer : (t : CType) → is_function t ≡ false → is_object_pointer (ptr t) ≡ true
 object_pointer (num k) h = refl

@@ -19,6 +19,7 @@ use Rattle.c_sound.proofs.KnownSuits.{known_suits}
 use Rattle.c_sound.proofs.RuleSuits as p
 use Rattle.c_sound.proofs.Outcomes.{Each, each_is, onward_each, provided_each}
 use Rattle.c_sound.proofs.RuleSuits.{IsPart, IsValue, IsScalar, IsWide, IsTaken, IsCallee, target_declared}
+use Rattle.c_sound.proofs.TypeTests.{same_self}
 
 -- types
 
@@ -117,7 +118,7 @@ module _ (n : ℕ) (ks : Declares) (ts : List Tag) where
   integer_gives m c a v h g = let k = gives_suits (IsWide n ks) (integer m) c a v h (p.integer_suits n ks m) g in (k.value.suits, k.integer)
 
   taken_as : (t : CType) (v : TExpr) → IsTaken n ks t v → is_taken_as t (type_of v) ≡ true
-  taken_as t v h = and_from (is_scalar t) (same_type (type_of v) t) h.scalar (subst (λ u. same_type (type_of v) u ≡ true) h.is_type (p.same_self (type_of v)))
+  taken_as t v h = and_from (is_scalar t) (same_type (type_of v) t) h.scalar (subst (λ u. same_type (type_of v) u ≡ true) h.is_type (same_self (type_of v)))
 
   pub value_gives : (m : ℕ) (c : Env) (t : CType) (a : Expr) (v : TExpr) → IsSane t → Stands n ks ts c → Gives (value_for m c t) c a v → SuitsHere (IsMeant n ks) AnyText (is_taken_as t) v
   value_gives m c t a v s h g = let k = gives_suits (IsTaken n ks t) (value_for m c t) c a v h (λ x hx. p.value_for_suits n ks m c t x s hx) g in (k.value.suits, taken_as t v k)

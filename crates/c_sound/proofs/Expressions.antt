@@ -26,7 +26,8 @@ use Rattle.c_sound.proofs.Memory.{IsSpot, goes_as, load_goes, store_goes, copy_g
 use Rattle.c_sound.proofs.Pointers.{place_spot, as_pointer_goes, beyond_goes}
 use Rattle.c_sound.proofs.Operators.{operate_goes, operands_are_scalars, updated_goes, stepped_goes, pick_true, pick_false, object_is}
 use Rattle.c_sound.proofs.Constants.{zero_integer}
-use Rattle.c_sound.proofs.Evaluation.{function_same, structure_same, used_valued, scalar_valued, function_valued, integer_valued, valued_scalar, object_scalar, void_has, object_goes, name_goes, variable_goes, target_goes, unary_goes, unary_scalar, truth_goes, size_goes, function_pointer, address_has, object_has, element_goes, callee_valued, callee_has}
+use Rattle.c_sound.proofs.Evaluation.{function_same, structure_same, function_valued, valued_scalar, void_has, object_goes, name_goes, variable_goes, target_goes, unary_goes, unary_scalar, truth_goes, size_goes, function_pointer, address_has, object_has, element_goes, callee_valued, callee_has}
+use Rattle.c_sound.proofs.TypeTests.{used_valued, scalar_valued, integer_valued, object_scalar}
 
 -- No place of type void is read, which would end by rule 0. Suits alone doesn't say so.
 abbrev mutual

@@ -1,7 +1,7 @@
 -- Of a program that no check refuses, each function that is used is there and gives what its type says, and each external object that is used is there.
 use Rattle.std.proofs.Common.{◌≡◌, ℕ, zero, suc, ◌+◌, ◌<◌, List, [], ◌∷◌, map, length, Bool, true, false, not, ◌&&◌, ◌||◌, nat_eq, slice_get, find, option_map, Option, Some, None, ◌⊎◌, inl, inr, refl, sym, ap, ◌∙◌, subst, true≢false, arith}
 use Rattle.std.specs.List.{list_any, filter_map}
-use Rattle.std.proofs.lemmas.Bool.{eqb-true}
+use Rattle.std.proofs.lemmas.Bool.{and_from, and_parts, eqb-true}
 use Rattle.std.proofs.lemmas.Slice.Eq.{bytes_eq-Decides}
 use Rattle.c_type.specs.Names.{Name, same_name, pick, or_else}
 use Rattle.c_type.specs.Types.{CType, fun, is_integer}
@@ -63,17 +63,9 @@ accepted us r h =
 
 -- subjects
 
-both_hold : (a b : Bool) → a ≡ true → b ≡ true → (a && b) ≡ true
-both_hold true b p q = q
-both_hold false b p q = p
-
-both_held : (a b : Bool) → (a && b) ≡ true → (a ≡ true) × (b ≡ true)
-both_held true b h = (refl, h)
-both_held false b h = cc
-
 one_subject : (w : Option ℕ) (x : Name) → same_subject (record { within = w; name = x }) (record { within = w; name = x }) ≡ true
 one_subject None x = same_itself x
-one_subject (Some u) x = both_hold (nat_eq u u) (same_name x x) (number_itself u) (same_itself x)
+one_subject (Some u) x = and_from (nat_eq u u) (same_name x x) (number_itself u) (same_itself x)
 
 subject_itself : (s : Subject) → same_subject s s ≡ true
 subject_itself s = one_subject s.within s.name
@@ -92,7 +84,7 @@ external_function x u false y h = (refl, (bytes_eq-Decides x y).0 h)
 
 -- and a static one that of a static function of its unit
 static_function : (v : ℕ) (x : Name) (u : ℕ) (s : Bool) (y : Name) → same_subject (static_in v x) (function_of u s y) ≡ true → (s ≡ true) × (v ≡ u) × (x ≡ y)
-static_function v x u true y h = let q = both_held (nat_eq v u) (same_name x y) h in (refl, eqb-true v u q.0, (bytes_eq-Decides x y).0 q.1)
+static_function v x u true y h = let q = and_parts (nat_eq v u) (same_name x y) h in (refl, eqb-true v u q.0, (bytes_eq-Decides x y).0 q.1)
 static_function v x u false y h = cc
 
 -- definitions
@@ -462,4 +454,4 @@ module _ (p : Program) (r : Relation) (acc : Accepted p.units r) (known : AllKno
           of_found (body_named 0 (bodies_from 0 p.units) main_name) q.0 q.1 (of_body q.0 q.2 q.3)
 
       of_fact : (f : Fact) × IsIn f (facts p.units) × ((is_name main_name f.about && is_body f.says) ≡ true) → IsMain (linked p) (body_named 0 (bodies_from 0 p.units) main_name)
-      of_fact q = let b = both_held (is_name main_name q.0.about) (is_body q.0.says) q.2 in of_defined q.0 b.0 (body_is p.units q.0 q.1 b.1)
+      of_fact q = let b = and_parts (is_name main_name q.0.about) (is_body q.0.says) q.2 in of_defined q.0 b.0 (body_is p.units q.0 q.1 b.1)

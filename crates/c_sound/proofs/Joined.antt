@@ -1,8 +1,8 @@
 -- A program of units that suit, which the join doesn't refuse, suits.
 use Rattle.std.proofs.Common.{◌≡◌, ℕ, zero, suc, List, [], ◌∷◌, length, Bool, true, false, ◌||◌, nat_eq, Option, Some, None, inl, inr, refl, sym, ap, subst, true≢false}
-use Rattle.std.specs.Prelude.{◌&&◌, not}
+use Rattle.std.specs.Prelude.{not}
 use Rattle.std.specs.List.{list_any}
-use Rattle.std.proofs.lemmas.Bool.{eqb-true}
+use Rattle.std.proofs.lemmas.Bool.{and_parts, eqb-true}
 use Rattle.std.proofs.lemmas.Slice.Eq.{bytes_eq-Decides}
 use Rattle.c_type.specs.Names.{Name, at_or}
 use Rattle.c_type.specs.Types.{CType, Tag}
@@ -78,10 +78,6 @@ owned k (ment.Own j t i ∷ ms) h = case_of (nat_eq k j) refl h (λ g. owned k m
     case_of true g r more = (t, i, inl (ap (λ n. ment.Own n t i) (eqb-true k j g)))
     case_of false g r more = let q = more r in (q.0, q.1, inr q.2)
 
-both_true : (a b : Bool) → (a && b) ≡ true → (a ≡ true) × (b ≡ true)
-both_true true b h = (refl, h)
-both_true false b h = cc
-
 not_true : (b : Bool) → not b ≡ true → b ≡ false
 not_true true h = cc
 not_true false h = refl
@@ -106,7 +102,7 @@ about_external x (said.Outer y) h = cc
 declared_event : (x : Name) (vs : List Event) → list_any (declares_object x) vs ≡ true → DeclaredIn vs x
 declared_event x vs h =
     let p = passing (declares_object x) vs h in
-    let q = both_true (is_external x p.0.about) (gives_object p.0.says) p.2 in
+    let q = and_parts (is_external x p.0.about) (gives_object p.0.says) p.2 in
     (p.0, p.1, about_external x p.0.about q.0, says_object p.0.says q.1)
 
 bodies_suit : (w : Linked) (bs : List BodyAt) → ((b : BodyAt) → IsIn b bs → SuitsBody w b) → SuitBodies w bs

@@ -10,7 +10,8 @@ use Rattle.c_tree.specs.declared.TBinary.TheVariants.{Add, Sub}
 use Rattle.c_tree.specs.Constant.{constant, given, is_zero, is_zero_option, is_nonzero}
 use Rattle.c_tree.specs.RuleDecls.{is_some, is_known, place_spot, pointer_spot, is_function_address, moved_elements}
 use Rattle.c_sound.specs.Suits.{Suits}
-use Rattle.c_sound.proofs.RuleSuits.{or_cases, both_true}
+use Rattle.c_sound.proofs.RuleSuits.{or_cases}
+use Rattle.std.proofs.lemmas.Bool.{and_parts}
 
 given_first : {A B : Type 0} (o : Option A) (go : A → Option B) → is_some (given o go) ≡ true → is_some o ≡ true
 given_first None go h = h
@@ -80,9 +81,9 @@ module _ (R : CType → Ref → Type 0) (T : ℕ → Type 0) (ts : List Tag) whe
   pub known_suits : (t : CType) (v : TExpr) → is_known ts t v ≡ true → Suits true R T v → Suits false R T v
   known_suits t v k h =
       or_cases _ (is_integer t && is_some (constant ts v)) _ k
-      (λ g. constant_suits v (both_true (is_integer t) _ g).1 h)
-      (λ g. or_cases _ (is_integer (type_of v) && is_zero ts v) _ (both_true (is_pointer t) _ g).1
-      (λ z. constant_suits v (zero_some (constant ts v) (both_true (is_integer (type_of v)) _ z).1) h)
+      (λ g. constant_suits v (and_parts (is_integer t) _ g).1 h)
+      (λ g. or_cases _ (is_integer (type_of v) && is_zero ts v) _ (and_parts (is_pointer t) _ g).1
+      (λ z. constant_suits v (zero_some (constant ts v) (and_parts (is_integer (type_of v)) _ z).1) h)
       (λ z. or_cases _ (is_some (pointer_spot ts v)) (is_function_address v) z (λ s. pointer_suits v s h) (λ s. function_suits v s h)))
     where
       zero_some : (o : Option ℕ) → is_zero_option o ≡ true → is_some o ≡ true

@@ -1,4 +1,5 @@
 pub mod Goes
+pub mod TypeTests
 pub mod Means
 pub mod Numbers
 pub mod Types

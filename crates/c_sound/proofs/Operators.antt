@@ -1,6 +1,6 @@
 -- Operators on two values, steps and compound assignments give values of their types.
 use Rattle.std.proofs.Common.{◌≡◌, ℕ, ◌<◌, Bool, true, false, ◌&&◌, ◌||◌, refl, sym, subst}
-use Rattle.std.proofs.lemmas.Bool.{eq-eqb, and_parts, and_from, or_left, or_right}
+use Rattle.std.proofs.lemmas.Bool.{and_parts, and_from, or_left, or_right}
 use Rattle.c_type.specs.declared.Kind.TheVariants as kinds
 use Rattle.c_type.specs.Names.{pick}
 use Rattle.c_type.specs.Types.{CType, num, void, ptr, arr, struct, union, enum, fun, same_type, is_integer, is_pointer, signed_type}
@@ -24,6 +24,7 @@ use Rattle.c_sound.proofs.Numbers.{two_below, one_kept}
 use Rattle.c_sound.proofs.Types.{integer_is, pointer_is, is_pointer_to, wide_has, converts_has}
 use Rattle.c_sound.proofs.Memory.{IsSpot, goes_as, load_goes, store_goes}
 use Rattle.c_sound.proofs.Pointers.{object_target, add_to_goes, two_pointers_go}
+use Rattle.c_sound.proofs.TypeTests.{same_self, scalar_used}
 
 numbers_go : (ch : Bool) (w : Linked) (t : CType) (op : TBinary) (signed : Bool) (n m : ℕ) (s : State) →
     is_wide t ≡ true → n < 4294967296 → m < 4294967296 → Holds w s → Goes ch w (HasType w t) (numbers op signed (Num n) (Num m) s)
@@ -153,9 +154,6 @@ operands_are_scalars t op a b h = case_of (is_pointer a) (is_pointer b) refl ref
 
 -- `op=`, `++` and `--`
 
-pub scalar_used : (t : CType) → is_scalar t ≡ true → is_used t ≡ true
-scalar_used t h = or_left (is_scalar t) _ h
-
 pub updated_goes : (ch : Bool) (c : Context) (t : CType) (op : TBinary) (at tb : CType) (p y : Value) (s : State) →
     is_scalar t ≡ true → converts at t ≡ true → binary_suits at op at tb ≡ true → converts t at ≡ true → IsSpot p → HasType c.whole tb y → Holds c.whole s →
     Goes ch c.whole (HasType c.whole t) (updated c t op at tb p y s)
@@ -165,16 +163,6 @@ updated_goes ch c t op at tb p y s sc to q back i hy h =
     (operate_goes ch c at op at tb (converted at x) y s1 q (converts_has c.whole at t x (scalar_used t sc) to hx) hy h1)
     (λ z s2 hz h2. store_goes ch c t p (converted t z) s2 sc i
     (converts_has c.whole t at z (scalar_used at (operands_are_scalars at op at tb q).0) back hz) h2))
-
-pub same_self : (t : CType) → same_type t t ≡ true
-same_self (num k) = eq-eqb _ _ refl
-same_self void = refl
-same_self (ptr t) = same_self t
-same_self (arr n t) = and_from _ _ (eq-eqb n n refl) (same_self t)
-same_self (struct k) = eq-eqb k k refl
-same_self (union k) = eq-eqb k k refl
-same_self (enum k) = eq-eqb k k refl
-same_self (fun t) = same_self t
 
 -- the type of the sum: a number's is int
 abbrev stepped_type : CType → CType

@@ -1,13 +1,13 @@
 -- Each rule on expressions gives a typed expression that suits, where its parts suit.
 use Rattle.std.proofs.Common.{◌≡◌, ℕ, suc, ◌+◌, List, [], ◌∷◌, length, Option, Some, None, Bool, true, false, not, refl, sym, ap, ◌∙◌, subst}
 use Rattle.std.specs.Prelude.{nat_eq, ◌&&◌, ◌||◌}
-use Rattle.std.proofs.lemmas.Bool.{and_from, or_left, or_right, eq-eqb}
+use Rattle.std.proofs.lemmas.Bool.{and_parts, and_from, or_left, or_right}
 use Rattle.c_type.specs.declared.Kind.{Kind}
 use Rattle.c_type.specs.declared.Kind.TheVariants.{Char, UChar, Short, UShort, Int, UInt, Long, ULong}
 use Rattle.c_type.specs.Names.{Name, same_name, pick, at_or}
 use Rattle.c_type.specs.Sizes.{no_tag}
 use Rattle.c_type.specs.Kinds.{widened, meet, kind_size}
-use Rattle.c_type.specs.Types.{CType, num, void, ptr, arr, struct, union, enum, fun, same_type, is_integer, is_pointer, Member, target, kind_code}
+use Rattle.c_type.specs.Types.{CType, num, void, ptr, arr, struct, union, enum, fun, same_type, is_integer, is_pointer, Member, target}
 use Rattle.c_tree.specs.TExpr as e
 use Rattle.c_tree.specs.TExpr.{TExpr, TArgs, Ref, type_of}
 use Rattle.c_tree.specs.declared.TUnary.{TUnary}
@@ -32,10 +32,7 @@ use Rattle.c_sound.specs.Unit.{Declares, IsMeant, AnyText}
 use Rattle.c_sound.proofs.Stands.{void_in_place, IsSane, IsDeclared, IsSaneName, SaneMembers, SaneTags, members_at, function_meant, OptionMeans}
 use Rattle.c_sound.specs.Suits.{Suits, SuitArgs, callee, is_used, is_wide, converts, unary_suits, binary_suits, is_move, compares}
 use Rattle.c_sound.proofs.Outcomes.{Each, onward_each, provided_each, pick_each}
-
-pub both_true : (a b : Bool) → (a && b) ≡ true → (a ≡ true) × (b ≡ true)
-both_true true b h = (refl, h)
-both_true false b h = cc
+use Rattle.c_sound.proofs.TypeTests.{same_self, integer_scalar, scalar_used, integer_used, object_scalar}
 
 -- types
 
@@ -43,33 +40,10 @@ abbrev pub is_array : CType → Bool
 is_array (arr n t) = true
 is_array _ = false
 
-pub same_self : (t : CType) → same_type t t ≡ true
-same_self (num k) = eq-eqb (kind_code k) (kind_code k) refl
-same_self void = refl
-same_self (ptr t) = same_self t
-same_self (arr n t) = and_from (nat_eq n n) (same_type t t) (eq-eqb n n refl) (same_self t)
-same_self (struct k) = eq-eqb k k refl
-same_self (union k) = eq-eqb k k refl
-same_self (enum k) = eq-eqb k k refl
-same_self (fun t) = same_self t
-
 integer_sane : (t : CType) → is_integer t ≡ true → IsSane t
 integer_sane (num k) h = (refl, refl, refl)
 integer_sane (enum k) h = (refl, refl, refl)
 integer_sane _ h = cc
-
-pub integer_scalar : (t : CType) → is_integer t ≡ true → is_scalar t ≡ true
-integer_scalar t h = or_left (is_integer t) (is_pointer t) h
-
-pub scalar_used : (t : CType) → is_scalar t ≡ true → is_used t ≡ true
-scalar_used t h = or_left (is_scalar t) (is_void t) h
-
-pub integer_used : (t : CType) → is_integer t ≡ true → is_used t ≡ true
-integer_used t h = scalar_used t (integer_scalar t h)
-
-object_scalar : (t : CType) → is_object_pointer t ≡ true → is_scalar t ≡ true
-object_scalar (ptr t) h = refl
-object_scalar _ h = cc
 
 used_array : (t : CType) → is_used t ≡ true → is_array t ≡ false
 used_array (num k) h = refl
@@ -78,10 +52,10 @@ used_array (ptr t) h = refl
 used_array (enum k) h = refl
 used_array _ h = cc
 
-wide_integer : (t : CType) → is_integer t ≡ true → is_integer (wide t) ≡ true
-wide_integer (num k) h = refl
-wide_integer (enum k) h = refl
-wide_integer _ h = cc
+widened_integer : (t : CType) → is_integer t ≡ true → is_integer (wide t) ≡ true
+widened_integer (num k) h = refl
+widened_integer (enum k) h = refl
+widened_integer _ h = cc
 
 widened_wide : (k : Kind) → nat_eq (kind_size (widened k)) 4 ≡ true
 widened_wide Char = refl
@@ -241,7 +215,7 @@ pointer_sane t h = (h.0.0, h.0.1, subst (λ b. (b || void_is_a_result t) ≡ tru
 
 -- a pointer to an array's element
 pub element_sane : (m : ℕ) (t : CType) → IsSane (arr m t) → IsSane (ptr t)
-element_sane m t h = ((both_true (not (is_function t)) (elements_are_objects t) h.0).1, h.1, h.2)
+element_sane m t h = ((and_parts (not (is_function t)) (elements_are_objects t) h.0).1, h.1, h.2)
 
 callee_sane : (t : CType) → IsSane t → IsSane (callee t)
 callee_sane (ptr t) h = (target_declared t h).0
@@ -267,7 +241,7 @@ returned_void (fun t) h = h
 result_sane : (t : CType) → callee t ≡ fun (r.result_of t) → IsSane t → IsSane (r.result_of t) × (is_array (r.result_of t) ≡ false)
 result_sane t q h =
     let s : IsSane (fun (r.result_of t)) = subst IsSane q (callee_sane t h) in
-    let p = both_true (may_return (r.result_of t)) (functions_return (r.result_of t)) s.1 in
+    let p = and_parts (may_return (r.result_of t)) (functions_return (r.result_of t)) s.1 in
     ((s.0, p.1, returned_void (r.result_of t) s.2), returned_array (r.result_of t) p.0)
 
 array_variable : (n : ℕ) (ks : Declares) (t : CType) (q : Ref) → is_array t ≡ true → IsMeant n ks t q → is_variable q ≡ true
@@ -297,7 +271,7 @@ taken_by (enum k) u z h = or_cases _ (is_integer u) false h (λ g. (or_left (is_
 taken_by (ptr t) u z h =
     or_cases _ (same_type (ptr t) u) (is_integer u && z) h
     (λ g. (or_right (is_integer u) (same_type (ptr t) u) g, refl, subst (λ y. is_used y ≡ true) (same_is (ptr t) u g) refl))
-    (λ g. let i = (both_true (is_integer u) z g).0 in (or_left (is_integer u) (same_type (ptr t) u) i, refl, integer_used u i))
+    (λ g. let i = (and_parts (is_integer u) z g).0 in (or_left (is_integer u) (same_type (ptr t) u) i, refl, integer_used u i))
 taken_by _ u z h = cc
 
 cast_converts : (c : Env) (t : CType) (v : TExpr) → (is_void t || is_taken c t v) ≡ true → (converts t (type_of v) ≡ true) × (is_used t ≡ true)
@@ -347,7 +321,7 @@ module _ (n : ℕ) (ks : Declares) where
   used_as_suits (union k) x q h = tt
   used_as_suits (arr m t) x q h =
       let s = subst IsSane q h.sane in record {
-        suits = (h.suits, h.placed (rw q refl), object_by t (both_true (not (is_function t)) (elements_are_objects t) s.0).0);
+        suits = (h.suits, h.placed (rw q refl), object_by t (and_parts (not (is_function t)) (elements_are_objects t) s.0).0);
         sane = element_sane m t s;
         is_used = refl;
       }
@@ -396,7 +370,7 @@ module _ (n : ℕ) (ks : Declares) where
   widen_wide : (v : TExpr) → IsValue v → is_integer (type_of v) ≡ true → IsWide (widen v)
   widen_wide v h g =
       let t = wide (type_of v) in
-      let i = wide_integer (type_of v) g in
+      let i = widened_integer (type_of v) g in
       let q = to_type_is t v in record {
         value = to_type_value t v h (converts_integer t (type_of v) i g) (integer_sane t i) (integer_used t i);
         integer = subst (λ y. is_integer y ≡ true) (sym q) i;
@@ -458,7 +432,7 @@ module _ (n : ℕ) (ks : Declares) where
   widened_part : (F : TExpr → TExpr → TExpr) (v w : TExpr) → IsValue v → IsValue w → are_integers v w ≡ true →
       ((a b : TExpr) → IsInteger a → IsInteger b → IsPart (F a b)) → IsPart (F (widen v) (widen w))
   widened_part F v w h g q f =
-      let p = both_true (is_integer (type_of v)) (is_integer (type_of w)) q in
+      let p = and_parts (is_integer (type_of v)) (is_integer (type_of w)) q in
       f (widen v) (widen w) (wide_integer_value (widen v) (widen_wide v h p.0)) (wide_integer_value (widen w) (widen_wide w g p.1))
 
   pub arithmetic_suits : (op : TBinary) (x y : TExpr) → IsPart x → IsPart y → Each IsPart (r.arithmetic op x y)
@@ -472,7 +446,7 @@ module _ (n : ℕ) (ks : Declares) where
   moved_part : (c : Env) (op : TBinary) (v w : TExpr) → is_move op ≡ true → IsValue v → IsValue w → (is_object_pointer (type_of v) && is_integer (type_of w)) ≡ true →
       Each IsPart (r.pointer_and_integer c op v w)
   moved_part c op v w m h g q =
-      let p = both_true (is_object_pointer (type_of v)) (is_integer (type_of w)) q in
+      let p = and_parts (is_object_pointer (type_of v)) (is_integer (type_of w)) q in
       let k = widen_wide w g p.1 in
       provided_each IsPart 3 (target_is_sized c (type_of v)) _ (λ z.
       binary_part (type_of v) op v (widen w) h k.value h.sane h.is_used (moved_suits op (type_of v) (type_of (widen w)) p.0 k.integer m))
@@ -487,7 +461,7 @@ module _ (n : ℕ) (ks : Declares) where
       added : (v w : TExpr) → IsValue v → IsValue w → (is_integer (type_of v) && is_object_pointer (type_of w)) ≡ true →
           Each IsPart (provided 3 (target_is_sized c (type_of w)) (Is (e.binary (type_of w) Add (widen v) w)))
       added v w h g q =
-          let p = both_true (is_integer (type_of v)) (is_object_pointer (type_of w)) q in
+          let p = and_parts (is_integer (type_of v)) (is_object_pointer (type_of w)) q in
           let k = widen_wide v h p.0 in
           provided_each IsPart 3 (target_is_sized c (type_of w)) _ (λ z.
           binary_part (type_of w) Add (widen v) w k.value g g.sane g.is_used (added_suits (type_of (widen v)) (type_of w) k.integer p.1))
@@ -500,8 +474,8 @@ module _ (n : ℕ) (ks : Declares) where
   objects_part : (op : TBinary) (v w : TExpr) → compares op true ≡ true → IsValue v → IsValue w → (is_object_pointer (type_of v) && are_alike v w) ≡ true →
       IsPart (e.binary (num Int) op v w)
   objects_part op v w k h g q =
-      let p = both_true (is_object_pointer (type_of v)) (are_alike v w) q in
-      let a = both_true (is_pointer (type_of v)) (same_type (type_of v) (type_of w)) p.1 in
+      let p = and_parts (is_object_pointer (type_of v)) (are_alike v w) q in
+      let a = and_parts (is_pointer (type_of v)) (same_type (type_of v) (type_of w)) p.1 in
       alike_part op v w h g a.0 a.1 (subst (λ b. compares op b ≡ true) (sym p.0) k)
 
   pub difference_suits : (c : Env) (x y : TExpr) → IsPart x → IsPart y → Each IsPart (r.difference c x y)
@@ -521,8 +495,8 @@ module _ (n : ℕ) (ks : Declares) where
   -- a pointer and the constant 0, which becomes null of its type
   zero_value : (c : Env) (v w : TExpr) → IsValue v → IsValue w → is_with_zero c.tags v w ≡ true → (is_pointer (type_of v) ≡ true) × IsValue (to_type (type_of v) w)
   zero_value c v w h g q =
-      let p = both_true (is_pointer (type_of v)) _ q in
-      let i = (both_true (is_integer (type_of w)) _ p.1).0 in
+      let p = and_parts (is_pointer (type_of v)) _ q in
+      let i = (and_parts (is_integer (type_of w)) _ p.1).0 in
       (p.0, to_type_value (type_of v) w g (converts_zero (type_of v) (type_of w) p.0 i) h.sane h.is_used)
 
   pub equality_suits : (c : Env) (op : TBinary) (x y : TExpr) → ((b : Bool) → compares op b ≡ true) → IsPart x → IsPart y → Each IsPart (r.equality c op x y)
@@ -534,7 +508,7 @@ module _ (n : ℕ) (ks : Declares) where
       pick_each IsPart (is_with_zero c.tags w v) _ _ (λ q. left v w h g q) (λ q. tt)))))
     where
       alike : (v w : TExpr) → IsValue v → IsValue w → are_alike v w ≡ true → IsPart (e.binary (num Int) op v w)
-      alike v w h g q = let p = both_true (is_pointer (type_of v)) (same_type (type_of v) (type_of w)) q in alike_part op v w h g p.0 p.1 (k (is_object_pointer (type_of v)))
+      alike v w h g q = let p = and_parts (is_pointer (type_of v)) (same_type (type_of v) (type_of w)) q in alike_part op v w h g p.0 p.1 (k (is_object_pointer (type_of v)))
 
       right : (v w : TExpr) → IsValue v → IsValue w → is_with_zero c.tags v w ≡ true → IsPart (e.binary (num Int) op v (to_type (type_of v) w))
       right v w h g q =
@@ -587,8 +561,8 @@ module _ (n : ℕ) (ks : Declares) where
       alike : (u v w : TExpr) → IsScalar u → IsValue v → IsValue w → (are_alike v w || (is_void (type_of v) && is_void (type_of w))) ≡ true → IsPart (e.choice (type_of v) u v w)
       alike u v w f h g q =
           choice_part (type_of v) u v w f h g refl (or_cases _ (are_alike v w) (is_void (type_of v) && is_void (type_of w)) q
-          (λ k. sym (same_is (type_of v) (type_of w) (both_true (is_pointer (type_of v)) (same_type (type_of v) (type_of w)) k).1))
-          (λ k. let p = both_true (is_void (type_of v)) (is_void (type_of w)) k in void_is (type_of w) p.1 ∙ sym (void_is (type_of v) p.0)))
+          (λ k. sym (same_is (type_of v) (type_of w) (and_parts (is_pointer (type_of v)) (same_type (type_of v) (type_of w)) k).1))
+          (λ k. let p = and_parts (is_void (type_of v)) (is_void (type_of w)) k in void_is (type_of w) p.1 ∙ sym (void_is (type_of v) p.0)))
 
   -- one operand
 
@@ -637,7 +611,7 @@ module _ (n : ℕ) (ks : Declares) where
   step_suits c op x hx =
       provided_each IsPart 21 (is_place x && (is_number (type_of x) || is_object_pointer (type_of x))) _ (λ q.
       provided_each IsPart 3 (target_is_sized c (type_of x)) _ (λ z.
-      let p = both_true (is_place x) (is_number (type_of x) || is_object_pointer (type_of x)) q in
+      let p = and_parts (is_place x) (is_number (type_of x) || is_object_pointer (type_of x)) q in
       value_part (e.step (type_of x) op x) (record { suits = (hx.suits, p.0, refl, p.1); sane = hx.sane; is_used = stepped_used (type_of x) p.1 })))
 
   pub size_of_suits : (c : Env) (x : TExpr) → Each IsPart (r.size_of c x)
@@ -659,7 +633,7 @@ module _ (n : ℕ) (ks : Declares) where
     where
       at : (v w : TExpr) → IsValue v → IsValue w → (is_object_pointer (type_of v) && is_integer (type_of w)) ≡ true → IsPart (e.index (target (type_of v)) v (widen w))
       at v w h g q =
-          let p = both_true (is_object_pointer (type_of v)) (is_integer (type_of w)) q in
+          let p = and_parts (is_object_pointer (type_of v)) (is_integer (type_of w)) q in
           let k = widen_wide w g p.1 in
           let o = object_is (type_of v) p.0 in
           let d = target_declared (target (type_of v)) (subst IsSane o.0 h.sane) in
@@ -715,7 +689,7 @@ module _ (n : ℕ) (ks : Declares) where
       provided_each IsPart 21 (is_place y && same_type (type_of x) (type_of y)) _ (λ q.
       provided_each IsPart 3 (is_sized (known c) (type_of x)) _ (λ z.
       value_part (e.assign void x y) (record {
-        suits = (hx.suits, hy.suits, p, copies (type_of x) k (both_true (is_place y) _ q).0);
+        suits = (hx.suits, hy.suits, p, copies (type_of x) k (and_parts (is_place y) _ q).0);
         sane = (refl, refl, refl);
         is_used = refl;
       })))
@@ -726,7 +700,7 @@ module _ (n : ℕ) (ks : Declares) where
   pub assign_suits : (c : Env) (x y : TExpr) → IsPart x → IsPart y → Each IsPart (r.assign c x y)
   assign_suits c x y hx hy =
       provided_each IsPart 21 (r.may_be_set x) _ (λ q.
-      let p = both_true (is_place x) (is_scalar (type_of x) || is_structure (type_of x)) q in
+      let p = and_parts (is_place x) (is_scalar (type_of x) || is_structure (type_of x)) q in
       pick_each IsPart (is_structure (type_of x)) _ _ (λ k. copied_suits c x y p.0 k hx hy) (λ k.
       onward_each IsValue IsPart (used y) _ (used_suits y hy) (λ w h.
       onward_each (IsTaken (type_of x)) IsPart (taken 21 c (type_of x) w) _ (taken_suits 21 c (type_of x) w hx.sane h) (λ v g. stored v p.0 k g))))
@@ -745,7 +719,7 @@ module _ (n : ℕ) (ks : Declares) where
   updated_part : (op : TBinary) (at : CType) (x w : TExpr) → IsPart x → (is_place x && is_integer (type_of x)) ≡ true → is_integer at ≡ true → is_wide at ≡ true → IsInteger w →
       IsPart (e.update (type_of x) op at x w)
   updated_part op at x w hx q i k h =
-      let p = both_true (is_place x) (is_integer (type_of x)) q in
+      let p = and_parts (is_place x) (is_integer (type_of x)) q in
       let t = type_of x in
       value_part (e.update t op at x w) (record {
         suits = (hx.suits, h.value.suits, p.0, integer_scalar t p.1, refl, converts_integer at t i p.1, both_integers at op at (type_of w) i h.integer k, converts_integer t at p.1 i);
@@ -764,8 +738,8 @@ module _ (n : ℕ) (ks : Declares) where
   update_shift_suits op x y hx hy =
       provided_each IsPart 21 (is_place x && is_integer (type_of x)) _ (λ q.
       onward_each IsWide IsPart (integer 21 y) _ (integer_suits 21 y hy) (λ w h.
-      let i = (both_true (is_place x) (is_integer (type_of x)) q).1 in
-      updated_part op (wide (type_of x)) x w hx q (wide_integer (type_of x) i) (wide_wide (type_of x) i) (wide_integer_value w h)))
+      let i = (and_parts (is_place x) (is_integer (type_of x)) q).1 in
+      updated_part op (wide (type_of x)) x w hx q (widened_integer (type_of x) i) (wide_wide (type_of x) i) (wide_integer_value w h)))
 
   pub update_sum_suits : (c : Env) (op : TBinary) (x y : TExpr) → is_move op ≡ true → IsPart x → IsPart y → Each IsPart (r.update_sum c op x y)
   update_sum_suits c op x y m hx hy =
@@ -775,7 +749,7 @@ module _ (n : ℕ) (ks : Declares) where
     where
       moved : (w : TExpr) → (is_place x && is_object_pointer (type_of x)) ≡ true → IsWide w → IsPart (e.update (type_of x) op (type_of x) x w)
       moved w q h =
-          let p = both_true (is_place x) (is_object_pointer (type_of x)) q in
+          let p = and_parts (is_place x) (is_object_pointer (type_of x)) q in
           let t = type_of x in
           let k = object_scalar t p.1 in
           value_part (e.update t op t x w) (record {

@@ -1,8 +1,8 @@
 -- Statements go well where expressions, calls and the further rounds of loops do.
 use Rattle.std.proofs.Common.{◌≡◌, ℕ, suc, ◌+◌, List, [], ◌∷◌, Bool, true, false, sym, subst, Option, Some, None}
 use Rattle.std.specs.Prelude.{nat_eq, nat_lt}
-use Rattle.std.proofs.lemmas.Bool.{and_parts, or_left}
-use Rattle.c_type.specs.Types.{CType, is_integer, is_pointer, same_type}
+use Rattle.std.proofs.lemmas.Bool.{and_parts}
+use Rattle.c_type.specs.Types.{CType, same_type}
 use Rattle.c_tree.specs.TExpr.{TExpr, type_of}
 use Rattle.c_tree.specs.TStmt.{TStmt, expr, empty, if_only, if_else, while_, do_, for_, switch, break_, continue_, return_, block, TStmts, no_stmts, more_stmts, TItems, no_items, case_, default_, more_items, Local as Item, auto, auto_init, static_, extern_, function, locals}
 use Rattle.c_tree.specs.Values.{Local, Value, Num, Null, To, Fn, is_true}
@@ -11,7 +11,6 @@ use Rattle.c_tree.specs.Context.{Context, Linked, fresh}
 use Rattle.c_tree.specs.Pointers.{store}
 use Rattle.c_tree.specs.Exprs.{Call, value}
 use Rattle.c_tree.specs.Stmts.{Given, Rest, turn, after, around, out_of, next, perform, test, give_back, while_round, do_round, for_round, zero_auto, zero_local, zero_block, begin_auto, init, inits, has_case, has_default, select, stmt, loop, stmts, items, from_case, from_default}
-use Rattle.c_tree.specs.RuleTypes.{is_function, is_void}
 use Rattle.c_tree.specs.RuleValues.{is_scalar}
 use Rattle.c_tree.proofs.Suited.{same_is}
 use Rattle.c_sound.specs.HasType.{HasType, Holds, HoldActs}
@@ -20,6 +19,7 @@ use Rattle.c_sound.specs.Program.{IsBound, HasText, HaveSizes}
 use Rattle.c_sound.proofs.Goes.{Goes, goes_bind, goes_choose, is_valued, ExprsGo}
 use Rattle.c_sound.proofs.Types.{integer_is}
 use Rattle.c_sound.proofs.Memory.{set_thing_holds, fresh_holds, store_goes}
+use Rattle.c_sound.proofs.TypeTests.{used_valued, scalar_valued, integer_valued}
 
 -- what is done at a turn goes well
 abbrev pub ActsGo : Bool → Linked → Acts → Type 0
@@ -85,15 +85,6 @@ begin_goes ch w P n act k s go a h f =
     (λ u s1 p h1. stop_goes ch w P (nat_lt (suc s.turns) n) s1 go (f s1 h1))
 
 -- expressions by their types
-
-used_valued : (t : CType) → is_used t ≡ true → is_valued t ≡ true
-used_valued t h = or_left (is_used t) (is_function t) h
-
-scalar_valued : (t : CType) → is_scalar t ≡ true → is_valued t ≡ true
-scalar_valued t h = used_valued t (or_left (is_scalar t) (is_void t) h)
-
-integer_valued : (t : CType) → is_integer t ≡ true → is_valued t ≡ true
-integer_valued t h = scalar_valued t (or_left (is_integer t) (is_pointer t) h)
 
 pub taken_scalar : (t u : CType) → is_taken_as t u ≡ true → is_scalar t ≡ true
 taken_scalar t u h = (and_parts (is_scalar t) (same_type u t) h).0

@@ -20,12 +20,13 @@ use Rattle.c_sound.specs.Suits.{SuitsFunc}
 use Rattle.c_sound.specs.Program.{HaveSizes}
 use Rattle.c_sound.specs.Laws.{TypedSuits}
 use Rattle.c_sound.proofs.Stands.{IsSane, IsDeclared, SaneTags, Stands, function_meant}
-use Rattle.c_sound.proofs.RuleSuits.{both_true, returned_void}
+use Rattle.c_sound.proofs.RuleSuits.{returned_void}
 use Rattle.c_sound.proofs.MentionSuits.{Among, among_parts, among_told, both_mention, all_mention, declr_mentions, spec_mentions}
 use Rattle.c_sound.proofs.Told.{exts_tell}
 use Rattle.c_sound.proofs.StmtSuits.{declr_sane, decls_suit, stmts_suit}
 use Rattle.c_sound.proofs.Declarations.{same_grows, def_grows, types_or_int_grow}
 use Rattle.c_sound.proofs.FileSuits.{AreDeclared, file_stands, aliases_stand, par_decls_grow, parameters_mean, items_suit}
+use Rattle.std.proofs.lemmas.Bool.{and_parts}
 
 -- what a function returns is no function
 returned_object : (r : CType) → may_return r ≡ true → is_function r ≡ false
@@ -99,7 +100,7 @@ module _ (n : ℕ) (ks : Declares) where
       IsBody c s h d ps b g f → BodyAfter ts f g
   body_suits ts c s h d ps b g f z st m (c1, c2, c3, q, (c0, hp, i1, i2, hd), hl, hs, r1, r2, r3, r4, r5, r6, r7, w) =
       let z1 : IsSane (fun g.result) = subst IsSane q z.0 in
-      let o = both_true (may_return g.result) (functions_return g.result) z1.1 in
+      let o = and_parts (may_return g.result) (functions_return g.result) z1.1 in
       let z2 : IsSane g.result = (z1.0, o.1, returned_void g.result z1.2) in
       let p = par_decls_grow n ks ts c (list_of h) ps g.declared c0 st hp in
       let us = ts ++ p.0.more in
