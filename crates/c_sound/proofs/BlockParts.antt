@@ -27,21 +27,19 @@ use Rattle.c_sound.proofs.Counts.{Counts}
 use Rattle.c_sound.proofs.RuleSays.{used_says, scalar_says, integer_says, value_says}
 use Rattle.c_sound.proofs.TextOrder.{gives_texts, constant_texts}
 use Rattle.c_sound.proofs.Parts.{SameNumbers, option_numbers, Part, part_both, same_part, here_part, expr_part, begun, started_expr, option_part, declr_part, begins_part, own_begin, own_begun}
+use Rattle.std.proofs.lemmas.List.{append-nil}
+use Rattle.std.proofs.lemmas.Grind.{flat_map-append}
 
 -- declarations
 
 declares_part : (c d : Env) (x : Name) (m : Meaning) → Declares c x m d → Part c d [] [] []
 declares_part c d x m h = subst (λ z. Part c z [] [] []) (sym h.1) (same_part c _ refl refl refl refl refl)
 
-pub right_nil : {A : Type 0} (xs : List A) → xs ++ [] ≡ xs
-right_nil [] = refl
-right_nil (x ∷ xs) = ap (λ z. x ∷ z) (right_nil xs)
-
 -- a part behind which nothing is counted
 pub and_nothing : (c d f : Env) (ss : List Start) (as_ : List Auto) (ms : List Mention) → Part c d ss as_ ms → Part d f [] [] [] → Part c f ss as_ ms
 and_nothing c d f ss as_ ms h k =
-    subst (λ z. Part c f z as_ ms) (right_nil ss)
-    (subst (λ z. Part c f (ss ++ []) z ms) (right_nil as_) (subst (λ z. Part c f (ss ++ []) (as_ ++ []) z) (right_nil ms) (part_both c d f ss [] as_ [] ms [] h k)))
+    subst (λ z. Part c f z as_ ms) (append-nil ss)
+    (subst (λ z. Part c f (ss ++ []) z ms) (append-nil as_) (subst (λ z. Part c f (ss ++ []) (as_ ++ []) z) (append-nil ms) (part_both c d f ss [] as_ [] ms [] h k)))
 
 -- an automatic object behind its declaration
 made : (c c1 : Env) (t : CType) → c1.autos ≡ c.autos → Part c1 (record c1 { autos = suc c1.autos }) [] (record { number = c.autos; ty = t } ∷ []) []
@@ -57,7 +55,7 @@ auto_part c0 c l d None x f h (c1, z, k, q, p) =
     let h1 = and_nothing c0 c c1 [] [] (in_declr d) h (declares_part c c1 d.name _ k) in
     subst (λ y. Part c0 f (starts_local y) (autos_local y) (in_local y)) (sym q)
     (subst (λ y. Part c0 y [] (record { number = c.autos; ty = d.ty } ∷ []) (in_declr d)) (sym p)
-    (subst (λ y. Part c0 (record c1 { autos = suc c1.autos }) [] (record { number = c.autos; ty = d.ty } ∷ []) y) (right_nil (in_declr d))
+    (subst (λ y. Part c0 (record c1 { autos = suc c1.autos }) [] (record { number = c.autos; ty = d.ty } ∷ []) y) (append-nil (in_declr d))
     (part_both c0 c1 _ [] [] [] (record { number = c.autos; ty = d.ty } ∷ []) (in_declr d) [] h1 m)))
 auto_part c0 c l d (Some (ud.single a)) x f h (w, c1, z, k, g, q, p) =
     let c2 = record c1 { autos = suc c1.autos } in
@@ -107,15 +105,11 @@ locals_part c s base (i ∷ is) xs f (d, x, rest, c1, hd, hx, hr, q) =
     (part_both c c1 f (starts_local x) (flat_map starts_local rest) (autos_local x) (flat_map autos_local rest) (in_local x) (flat_map in_local rest)
     (local_part (is_function d.ty) s c (past_declr i.declr c) _ d i.init x c1 (declr_part c (missing s i.init) base i.declr d hd) hx) (locals_part c1 s base is rest f hr))
 
-pub flat_both : {A B : Type 0} (f : A → List B) (xs ys : List A) → flat_map f (xs ++ ys) ≡ flat_map f xs ++ flat_map f ys
-flat_both f [] ys = refl
-flat_both f (x ∷ xs) ys = ap (λ z. f x ++ z) (flat_both f xs ys) ∙ sym (append_assoc (f x) (flat_map f xs) (flat_map f ys))
-
 both_locals : (c d f : Env) (xs ys : List Local) → LocalsPart c d xs → LocalsPart d f ys → LocalsPart c f (xs ++ ys)
 both_locals c d f xs ys h k =
-    subst (λ z. Part c f z (flat_map autos_local (xs ++ ys)) (flat_map in_local (xs ++ ys))) (sym (flat_both starts_local xs ys))
-    (subst (λ z. Part c f (flat_map starts_local xs ++ flat_map starts_local ys) z (flat_map in_local (xs ++ ys))) (sym (flat_both autos_local xs ys))
-    (subst (λ z. Part c f (flat_map starts_local xs ++ flat_map starts_local ys) (flat_map autos_local xs ++ flat_map autos_local ys) z) (sym (flat_both in_local xs ys))
+    subst (λ z. Part c f z (flat_map autos_local (xs ++ ys)) (flat_map in_local (xs ++ ys))) (sym (flat_map-append starts_local xs ys))
+    (subst (λ z. Part c f (flat_map starts_local xs ++ flat_map starts_local ys) z (flat_map in_local (xs ++ ys))) (sym (flat_map-append autos_local xs ys))
+    (subst (λ z. Part c f (flat_map starts_local xs ++ flat_map starts_local ys) (flat_map autos_local xs ++ flat_map autos_local ys) z) (sym (flat_map-append in_local xs ys))
     (part_both c d f (flat_map starts_local xs) (flat_map starts_local ys) (flat_map autos_local xs) (flat_map autos_local ys) (flat_map in_local xs) (flat_map in_local ys) h k)))
 
 pub decls_part : (c : Env) (ds : List ud.LocalDecl) (xs : List LocalDecl) (f : Env) → AreDecls c ds xs f → LocalsPart c f (locals xs)
@@ -209,7 +203,7 @@ mutual
       subst (StmtPart c f) (sym q) (with_start c f l a v (starts_stmt x) (autos_stmt x) (in_stmt x) (test_texts c a v h) (stmt_part _ (in_loop p) s x f k))
   stmt_part c p (us.do_while l s m a) t f (x, v, c1, k, h, q, e) =
       subst (StmtPart c f) (sym q)
-      (subst (λ z. Part c f (starts_stmt x ++ at c1.starts m ∷ []) z (in_stmt x ++ in_expr v)) (right_nil (autos_stmt x))
+      (subst (λ z. Part c f (starts_stmt x ++ at c1.starts m ∷ []) z (in_stmt x ++ in_expr v)) (append-nil (autos_stmt x))
       (part_both c c1 f (starts_stmt x) (at c1.starts m ∷ []) (autos_stmt x) [] (in_stmt x) (in_expr v) (stmt_part c (in_loop p) s x c1 k)
       (subst (λ z. Part c1 z (at c1.starts m ∷ []) [] (in_expr v)) (sym e) (started_expr c1 m a v (test_texts c1 a v h)))))
   stmt_part c p (us.for l a b d s) t f (v1, v2, v3, x, h1, h2, h3, k, q) =

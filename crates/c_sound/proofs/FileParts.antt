@@ -15,7 +15,8 @@ use Rattle.c_tree.specs.RuleTags.{in_file}
 use Rattle.c_tree.specs.RuleUnit.{is_own, object_again, combined, DeclaresInFile, own_number, next_static}
 use Rattle.c_sound.proofs.Counts.{Counts, counts_both}
 use Rattle.c_sound.proofs.TextOrder.{texts_both, own_both}
-use Rattle.c_sound.proofs.Parts.{map_both, Part}
+use Rattle.c_sound.proofs.Parts.{Part}
+use Rattle.std.proofs.lemmas.List.{map-append}
 
 -- numbers of statics
 
@@ -89,7 +90,7 @@ pub record FilePart (c f : Env) (ss : List Start) (ms : List Mention) : Type 0 w
 
 pub file_both : (c d f : Env) (ss ss' : List Start) (ms ms' : List Mention) → FilePart c d ss ms → FilePart d f ss' ms' → FilePart c f (ss ++ ss') (ms ++ ms')
 file_both c d f ss ss' ms ms' h k = record {
-  starts = subst (λ z. Counts c.starts z f.starts) (sym (map_both (λ (s : Start). s.index) ss ss')) (counts_both c.starts d.starts f.starts _ _ h.starts k.starts);
+  starts = subst (λ z. Counts c.starts z f.starts) (sym (map-append (λ (s : Start). s.index) ss ss')) (counts_both c.starts d.starts f.starts _ _ h.starts k.starts);
   texts = subst (λ z. Counts (length c.texts) z (length f.texts)) (sym (texts_both ms ms')) (counts_both (length c.texts) (length d.texts) (length f.texts) (text_numbers ms) (text_numbers ms') h.texts k.texts);
   statics = λ b.
       let p = h.statics b in

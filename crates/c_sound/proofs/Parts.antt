@@ -18,6 +18,7 @@ use Rattle.c_tree.specs.RuleStmts.{Maybe}
 use Rattle.c_sound.proofs.Counts.{Counts, counts_both}
 use Rattle.c_sound.proofs.RuleSays.{Says, first_says}
 use Rattle.c_sound.proofs.TextOrder.{texts_both, own_both, own_none, gives_texts, derived_texts}
+use Rattle.std.proofs.lemmas.List.{map-append}
 
 -- Between c and f stand parts with these numbers of starts, automatic objects, texts and statics.
 pub record Walked (c f : Env) (ss as_ ts ks : List ℕ) : Type 0 where
@@ -40,16 +41,12 @@ walked_both c d f ss ss' as_ as' ts ts' ks ks' h k = record {
 abbrev pub Part : Env → Env → List Start → List Auto → List Mention → Type 0
 Part c f ss as_ ms = Walked c f (map (λ (s : Start). s.index) ss) (map (λ (x : Auto). x.number) as_) (text_numbers ms) (own_numbers ms)
 
-pub map_both : {A B : Type 0} (f : A → B) (xs ys : List A) → map f (xs ++ ys) ≡ map f xs ++ map f ys
-map_both f [] ys = refl
-map_both f (x ∷ xs) ys = ap (λ z. f x ∷ z) (map_both f xs ys)
-
 pub part_both : (c d f : Env) (ss ss' : List Start) (as_ as' : List Auto) (ms ms' : List Mention) → Part c d ss as_ ms → Part d f ss' as' ms' → Part c f (ss ++ ss') (as_ ++ as') (ms ++ ms')
 part_both c d f ss ss' as_ as' ms ms' h k =
     let w = walked_both c d f _ _ _ _ _ _ _ _ h k in
     record {
-      starts = subst (λ z. Counts c.starts z f.starts) (sym (map_both (λ (s : Start). s.index) ss ss')) w.starts;
-      autos = subst (λ z. Counts c.autos z f.autos) (sym (map_both (λ (x : Auto). x.number) as_ as')) w.autos;
+      starts = subst (λ z. Counts c.starts z f.starts) (sym (map-append (λ (s : Start). s.index) ss ss')) w.starts;
+      autos = subst (λ z. Counts c.autos z f.autos) (sym (map-append (λ (x : Auto). x.number) as_ as')) w.autos;
       texts = subst (λ z. Counts (length c.texts) z (length f.texts)) (sym (texts_both ms ms')) w.texts;
       statics = subst (λ z. Counts c.statics z f.statics) (sym (own_both ms ms')) w.statics;
       file = w.file;

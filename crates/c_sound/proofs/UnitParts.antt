@@ -33,8 +33,9 @@ use Rattle.c_sound.specs.Laws.{TypedIsNumbered}
 use Rattle.c_sound.proofs.Counts.{Counts, counts_counted, counts_length}
 use Rattle.c_sound.proofs.TextOrder.{texts_both, own_both, constant_texts}
 use Rattle.c_sound.proofs.Parts.{Part, part_both, expr_part, declr_part, begins_part, own_begin, own_all, own_begun}
-use Rattle.c_sound.proofs.BlockParts.{right_nil, decls_part, stmts_part}
+use Rattle.c_sound.proofs.BlockParts.{decls_part, stmts_part}
 use Rattle.c_sound.proofs.FileParts.{Seen, first_seen, AllBelow, FilePart, file_both, part_file, same_file, here_file, said_file, all_below_more, scope_below, declared_part, owned_by}
+use Rattle.std.proofs.lemmas.List.{append-nil}
 
 -- words outside of blocks
 
@@ -60,7 +61,7 @@ members_file c base (d ∷ ds) ys f (y, rest, h, g, s, k, q) =
 -- a tag that is closed has no number of these
 closed_file : (c f : Env) (ms : List Mention) (r : Tag) (g : Env) → FilePart c f [] ms → g ≡ close r f → FilePart c g [] ms
 closed_file c f ms r g h q =
-    subst (λ z. FilePart c z [] ms) (sym q) (subst (FilePart c (close r f) []) (right_nil ms) (file_both c f (close r f) [] [] ms [] h (same_file f (close r f) refl refl refl (λ b. b))))
+    subst (λ z. FilePart c z [] ms) (sym q) (subst (FilePart c (close r f) []) (append-nil ms) (file_both c f (close r f) [] [] ms [] h (same_file f (close r f) refl refl refl (λ b. b))))
 
 mutual
   types_file : (c : Env) (y : ud.Types) (s : Spec) (b : CType) (f : Env) → AreTypes c y s b f → FilePart c f [] (in_spec s)
@@ -102,8 +103,8 @@ outside_file c0 c d i x f h (v, c1, z, k, g, q) =
     (part_file c1 f [] [] (in_begin v) (begins_part c1 d.ty i v f g)))
 
 function_file : (c0 f : Env) (d : Declr) (s : Bool) → FilePart c0 f [] (in_declr d) → FilePart c0 f [] (in_item (record { declr = d; bound = pick s OwnFunction OutsideFunction; init = None }))
-function_file c0 f d true h = subst (FilePart c0 f []) (sym (right_nil (in_declr d))) h
-function_file c0 f d false h = subst (FilePart c0 f []) (sym (right_nil (in_declr d))) h
+function_file c0 f d true h = subst (FilePart c0 f []) (sym (append-nil (in_declr d))) h
+function_file c0 f d false h = subst (FilePart c0 f []) (sym (append-nil (in_declr d))) h
 
 -- a static is said before its declarator
 own_texts : (d : Declr) (n : ℕ) (v : Option st.Init) → text_numbers (in_declr d ++ (m.Own n d.ty v ∷ in_begin v)) ≡ text_numbers (in_declr d ++ in_begin v)
@@ -144,7 +145,7 @@ item_file : (b : Bool) (s : Option Storage) (c0 c : Env) (d : Declr) (i : Option
 item_file true s c0 c d i x f h (q, k, p) =
     subst (λ y. FilePart c0 f [] (in_item y)) (sym p)
     (function_file c0 f d (is_static s)
-    (subst (FilePart c0 f []) (right_nil (in_declr d)) (file_both c0 c f [] [] (in_declr d) [] (part_file c0 c [] [] (in_declr d) h) (declared_part c f d.name _ (λ n. tt) k))))
+    (subst (FilePart c0 f []) (append-nil (in_declr d)) (file_both c0 c f [] [] (in_declr d) [] (part_file c0 c [] [] (in_declr d) h) (declared_part c f d.name _ (λ n. tt) k))))
 item_file false None c0 c d i x f h g = outside_file c0 c d i x f h g
 item_file false (Some sg.Auto) c0 c d i x f h g = outside_file c0 c d i x f h g
 item_file false (Some sg.Register) c0 c d i x f h g = outside_file c0 c d i x f h g
@@ -186,7 +187,7 @@ par_decls_file c xs (p ∷ ps) ys f (s, b, ds, rest, c1, c2, ht, hp, hr, q) =
 
 head_file : (c : Env) (s : Bool) (h : ud.Declr) (d : Declr) (ps : List ud.ParDecl) (ys : List ParDecl) (f : Env) → IsHead c s h d ps ys f → FilePart c f [] (flat_map in_pars ys)
 head_file c s h d ps ys f (c1, hp, g1, g2, k) =
-    subst (FilePart c f []) (right_nil (flat_map in_pars ys)) (file_both c c1 f [] [] (flat_map in_pars ys) [] (par_decls_file c (list_of h) ps ys c1 hp) (declared_part c1 f d.name _ (λ n. tt) k))
+    subst (FilePart c f []) (append-nil (flat_map in_pars ys)) (file_both c c1 f [] [] (flat_map in_pars ys) [] (par_decls_file c (list_of h) ps ys c1 hp) (declared_part c1 f d.name _ (λ n. tt) k))
 
 -- what stands between the braces of a function
 record BodyPart (c f : Env) (g : Func) : Type 0 where
@@ -213,7 +214,7 @@ body_file c s h d ps b g f (c1, c2, c3, e, hh, hl, hs, q1, q2, q3, q4, q5, q6, q
     (head_file c s h d ps g.declared c1 hh) open_ in
     record {
       file = subst (λ z. FilePart c f z (flat_map in_pars g.declared ++ ms)) (ap (λ z. at g.open_ g.line ∷ z) (append_assoc (flat_map starts_local (locals g.locals)) (starts_stmts g.stmts) (at g.close g.close_line ∷ [])))
-          (subst (λ z. FilePart c f (at g.open_ g.line ∷ ((flat_map starts_local (locals g.locals) ++ starts_stmts g.stmts) ++ at g.close g.close_line ∷ [])) (flat_map in_pars g.declared ++ z)) (right_nil ms) whole);
+          (subst (λ z. FilePart c f (at g.open_ g.line ∷ ((flat_map starts_local (locals g.locals) ++ starts_stmts g.stmts) ++ at g.close g.close_line ∷ [])) (flat_map in_pars g.declared ++ z)) (append-nil ms) whole);
       autos = counts_counted 0 c3.autos _ inside.autos;
     }
 
