@@ -1,6 +1,10 @@
 //! The tool chain of System V Release 3: compiles C files and runs them on the 386.
 #![tactic(auto)]
 
+ghost use Rattle.std.specs.Prelude.{◌≡◌, ◌≢◌, []};
+ghost use Rattle.std.specs.IoError.{error_kind};
+ghost use Rattle.svr3.specs.Lines.{line_of};
+
 mod answer;
 mod front;
 mod lines;
@@ -19,6 +23,7 @@ use answer::{End, status};
 use outside::put_all;
 use real::{RealFiles, RealSink, RealSource};
 use std::env::Env;
+use std::io::ErrorKind;
 use std::process::ExitCode;
 use std::{env, io};
 use top::svr3;
@@ -34,8 +39,12 @@ fn words_of<R: Env + AllocGlobal>(rt: &R) -> io::Result<Words> {
 }
 
 // The end where the words can't be read, and its line: want of memory, or words that aren't text.
-fn unread(error: &io::Error) -> (End, &'static [u8]) {
-    if error.kind() == io::ErrorKind::OutOfMemory {
+fn unread(error: &io::Error) -> (End, &'static [u8])
+    ensures memory { error_kind error.now ≡ ErrorKind.OutOfMemory → result.0 ≡ End.Memory }
+    ensures usage { error_kind error.now ≢ ErrorKind.OutOfMemory → result.0 ≡ End.Usage }
+    ensures line { result.1.now ≡ line_of [] result.0 }
+{
+    if error.kind() == ErrorKind::OutOfMemory {
         (End::Memory, b"svr3: memory\n")
     } else {
         (End::Usage, b"svr3: usage\n")
@@ -67,5 +76,7 @@ fn main(rt: HostRuntime) -> ExitCode {
     ExitCode::from(status(&end))
 }
 
+#[cfg(test)]
+mod real_tests;
 #[cfg(test)]
 mod tests;

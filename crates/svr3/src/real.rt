@@ -1,5 +1,7 @@
-// The real files, source and sink. Nothing is told of what they hold; each failure is counted.
-ghost use Rattle.std.specs.Prelude.{◌≡◌, ◌≢◌, IfErr};
+// The real files, source and sink. Nothing is told of what files hold; a source and a sink tell what
+// their reader and writer do, and those of the system tell nothing. Each failure is counted.
+ghost use Rattle.std.specs.Prelude.{◌≡◌, ◌≢◌, IfOk, IfErr, IfSome, take};
+ghost use Rattle.outside.specs.Told.{TakesAll};
 
 use outside::{Failed, FileErr, Files, PutErr, Sink, Source};
 use std::alloc::Global;
@@ -23,28 +25,24 @@ impl<'a, R: rt::Files> RealFiles<'a, R> {
 }
 
 // The first bytes of a reader, at most so many.
-fn front<R: Read>(alloc: Global, reader: &mut R, most: usize) -> Result<Vec<u8>, FileErr>
-    ensures { IfErr result (λ e. e ≢ FileErr.Absent) }
+fn front<R: Read + Drop>(alloc: Global, reader: R, most: usize) -> Result<Vec<u8>, FileErr>
+    ensures bytes { IfOk result (λ v. IfSome (R.remaining reader) (λ bytes. v.items ≡ take most bytes)) }
+    ensures there { IfErr result (λ e. e ≢ FileErr.Absent) }
 {
     let mut bytes = Vec::new(alloc);
-    let mut buf = [0u8; 4096];
-    while bytes.len() < most {
-        let want = buf.len().min(most - bytes.len());
-        match reader.read(&mut buf[..want]) {
-            Ok(0) => break,
-            Ok(n) => {
-                if bytes.extend_from_slice(&buf[..n]).is_err() {
-                    return Err(FileErr::Memory);
-                }
-            }
-            Err(_) => return Err(FileErr::Failed),
-        }
+    match reader.take(most as u64).read_to_end(&mut bytes) {
+        Ok(_) => Ok(bytes),
+        Err(error) => match error.kind() {
+            ErrorKind::OutOfMemory => Err(FileErr::Memory),
+            _ => Err(FileErr::Failed),
+        },
     }
-    Ok(bytes)
 }
 
 // Writes all the bytes, and hands on what the writer keeps.
-fn put<W: Write>(writer: &mut W, bytes: &[u8]) -> Result<(), Failed> {
+fn put<W: Write>(writer: &mut W, bytes: &[u8]) -> Result<(), Failed>
+    ensures bytes { TakesAll (W.contents writer.old) (W.contents writer.new) bytes.now result }
+{
     let mut done = 0;
     while done < bytes.len() {
         match writer.write(&bytes[done..]) {
@@ -71,7 +69,7 @@ impl<'a, R: rt::Files> Files for RealFiles<'a, R> {
             return Err(FileErr::Absent);
         };
         let answer = match fs::open(self.system, path) {
-            Ok(mut file) => front(alloc, &mut file, most),
+            Ok(file) => front(alloc, file, most),
             Err(error) => match error.kind() {
                 ErrorKind::NotFound => Err(FileErr::Absent),
                 ErrorKind::OutOfMemory => Err(FileErr::Memory),
@@ -101,7 +99,7 @@ impl<'a, R: rt::Files> Files for RealFiles<'a, R> {
     }
 }
 
-/// A source over any reader.
+/// A source over any reader. What is left in it is what the reader tells.
 #[derive(Drop)]
 pub struct RealSource<R> {
     reader: R,
@@ -118,9 +116,7 @@ impl<R: Read> RealSource<R> {
 }
 
 impl<R: Read> Source for RealSource<R> {
-    ghost use Rattle.std.specs.Prelude.{None};
-
-    ghost left = { λ s. None };
+    ghost left = { λ s. R.remaining s.reader };
 
     ghost faults = { λ s. s.faults };
 
@@ -135,7 +131,7 @@ impl<R: Read> Source for RealSource<R> {
     }
 }
 
-/// A sink over any writer.
+/// A sink over any writer. It holds what the writer tells.
 #[derive(Drop)]
 pub struct RealSink<W> {
     writer: W,
@@ -152,9 +148,7 @@ impl<W: Write> RealSink<W> {
 }
 
 impl<W: Write> Sink for RealSink<W> {
-    ghost use Rattle.std.specs.Prelude.{None};
-
-    ghost held = { λ s. None };
+    ghost held = { λ s. W.contents s.writer };
 
     ghost faults = { λ s. s.faults };
 
