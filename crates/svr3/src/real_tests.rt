@@ -4,21 +4,29 @@ use outside::{FileErr, Files, PutErr, Source, put_all};
 use std::process::Abort;
 use std::test::Fail;
 
+// Whether these bytes were read.
+fn is_text(read: Result<Vec<u8>, FileErr>, bytes: &[u8]) -> bool {
+    match read {
+        Ok(text) => text.as_slice() == bytes,
+        Err(_error) => false,
+    }
+}
+
 #[test]
 fn a_file_of_the_system_is_written_and_read(rt: HostRuntime) -> Result<(), Fail> {
     let mut files = RealFiles::new(&rt);
     assert!(rt; files.write(b"one.c", b"main() { }").is_ok());
     let front = files.read(rt.alloc(), b"one.c", 4);
-    assert!(rt; matches!(front, Ok(text) if text.as_slice() == b"main".as_slice()));
+    assert!(rt; is_text(front, b"main"));
     let all = files.read(rt.alloc(), b"one.c", 100);
-    assert!(rt; matches!(all, Ok(text) if text.as_slice() == b"main() { }".as_slice()));
+    assert!(rt; is_text(all, b"main() { }"));
     Ok(())
 }
 
 #[test]
 fn a_file_that_the_system_lacks_is_absent(rt: HostRuntime) -> Result<(), Fail> {
     let mut files = RealFiles::new(&rt);
-    let absent = files.read(rt.alloc(), b"one.c", 4);
+    let absent = files.read(rt.alloc(), b"none.c", 4);
     assert!(rt; matches!(absent, Err(FileErr::Absent)));
     let folder = files.read(rt.alloc(), b".", 4);
     assert!(rt; matches!(folder, Err(FileErr::Failed)));
