@@ -95,6 +95,7 @@ impl Heads {
         }
         Ok(tagged(kind, *number))
     }
+
     /// The line of the first tag whose name another tag before it has. There is one exactly where two tags have one name;
     /// those without a name differ from all.
     pub fn again(&self) -> Result<Option<u32>, AllocError>

@@ -6,7 +6,6 @@ ghost use Rattle.c_tree.specs.TypedOf.{ref_of};
 ghost use Rattle.c_tree.specs.RuleTypes as r;
 ghost use Rattle.c_tree.specs.RuleScope.{known, is_sized as is_sized_rule};
 ghost use Rattle.c_tree.specs.RuleValues as v;
-ghost use Rattle.c_tree.specs.TypedOf.{ref_of};
 ghost use Rattle.c_scope.specs.Closed.{closed};
 
 use c_tree::Ref;
