@@ -1,7 +1,7 @@
 -- The laws of the small form's code hold.
 use Rattle.gen_expr.specs.Reaches.{run_of}
 use Rattle.gen_expr.specs.Laws.{GhostsCanGo, ExpressionsReach, StatementsReach, MainsReach}
-use Rattle.c_tree.specs.Calls.{rest}
+use Rattle.c_run.specs.Calls.{rest}
 use Rattle.gen_expr.proofs.Reach.{without_ghosts}
 use Rattle.gen_expr.proofs.ExprsRun.{expr_runs}
 use Rattle.gen_expr.proofs.Stmts.{puts_byte, loops_on, stmts_run}

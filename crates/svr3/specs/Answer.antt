@@ -4,10 +4,10 @@ use Rattle.std.specs.Io.KnownBytes.{Appends}
 use Rattle.mach_mem.specs.Space.{Space, IsInitial}
 use Rattle.c_type.specs.Names.{Name}
 use Rattle.c_tree.specs.TUnit.{Func, Program}
-use Rattle.c_tree.specs.Values.{Ended, Stopped}
-use Rattle.c_tree.specs.State.{State, Halt, no_changes}
-use Rattle.c_tree.specs.Run.{run}
-use Rattle.c_tree.specs.JoinChecks as join
+use Rattle.c_run.specs.Values.{Ended, Stopped}
+use Rattle.c_run.specs.State.{State, Halt, no_changes}
+use Rattle.c_run.specs.Run.{run}
+use Rattle.c_join.specs.JoinChecks as join
 use Rattle.c_whole.specs.declared.JoinErr.{JoinErr}
 use Rattle.c_whole.specs.declared.JoinErr.TheVariants as err
 use Rattle.gen_expr.specs.Whole.{started}

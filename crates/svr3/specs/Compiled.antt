@@ -4,8 +4,8 @@ use Rattle.std.specs.declared.alloc.Global.{Global}
 use Rattle.c_tree.specs.declared.TFunc.{TFunc}
 use Rattle.c_tree.specs.TypedOf.{func_of}
 use Rattle.c_tree.specs.TUnit.{Func}
-use Rattle.c_tree.specs.Context.{linked}
-use Rattle.c_type.specs.Tokens.{Token}
+use Rattle.c_run.specs.Context.{linked}
+use Rattle.c_lex.specs.Tokens.{Token}
 use Rattle.gen_expr.specs.Whole.{text_of}
 use Rattle.svr3.specs.SmallForm.{AreSmallTokens, program_of}
 use Rattle.svr3.specs.Front.{IsSmall}

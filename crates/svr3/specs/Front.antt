@@ -1,15 +1,15 @@
 -- What texts are by the front end: a program, or refused, and by what.
 use Rattle.std.specs.Prelude.{◌≡◌, ℕ, List, [], ◌∷◌, true, map, take, Option, Some, None, slice_get, ⊤}
 use Rattle.std.specs.List.{AllZip}
-use Rattle.c_type.specs.Falls.{Falls}
+use Rattle.c_lex.specs.Falls.{Falls}
 use Rattle.c_tree.specs.TreeUnit.{Unit}
 use Rattle.c_tree.specs.TreeOf.{unit_of}
-use Rattle.c_tree.specs.Reads.{Reads, ReadsTokens}
+use Rattle.c_grammar.specs.Reads.{Reads, ReadsTokens}
 use Rattle.c_tree.specs.TUnit.{Func, TypedUnit, Program}
-use Rattle.c_tree.specs.RuleUnit.{IsTyped}
-use Rattle.c_tree.specs.RuleFailsUnit.{UnitFails}
-use Rattle.c_tree.specs.JoinChecks as join
-use Rattle.c_tree.specs.JoinChecks.{IsJoined, IsRefused}
+use Rattle.c_rule.specs.RuleUnit.{IsTyped}
+use Rattle.c_rule.specs.RuleFailsUnit.{UnitFails}
+use Rattle.c_join.specs.JoinChecks as join
+use Rattle.c_join.specs.JoinChecks.{IsJoined, IsRefused}
 use Rattle.c_whole.specs.Refusals.{told_as}
 use Rattle.c_whole.specs.declared.JoinErr.{JoinErr}
 use Rattle.c_whole.specs.declared.JoinErr.TheVariants as whole

@@ -4,12 +4,12 @@
 use Rattle.std.specs.Prelude.{ℕ, suc, ◌+◌, ◌-◌, ◌≡◌, ◌≤◌, nat_eq, List, [], ◌∷◌, length, map, Bool, true, false, not, ◌&&◌, nat_le, Option, Some, None, option_map}
 use Rattle.std.specs.List.{list_all, flat_map}
 use Rattle.c_type.specs.Names.{Name, same_name, pick}
-use Rattle.c_type.specs.Tokens.{Token, Tok}
-use Rattle.c_type.specs.Tokens as k
+use Rattle.c_lex.specs.Tokens.{Token, Tok}
+use Rattle.c_lex.specs.Tokens as k
 use Rattle.c_type.specs.declared.Kind.TheVariants.{Int}
 use Rattle.c_type.specs.Types.{num, fun}
-use Rattle.c_type.specs.Falls.{Falls}
-use Rattle.c_tree.specs.Words.{open_round, close_round}
+use Rattle.c_lex.specs.Falls.{Falls}
+use Rattle.c_grammar.specs.Words.{open_round, close_round}
 use Rattle.c_tree.specs.TreeExpr as u
 use Rattle.c_tree.specs.declared.Storage.{Storage}
 use Rattle.c_tree.specs.TreeDecl as d
@@ -24,10 +24,9 @@ use Rattle.c_tree.specs.TExpr.{Local, Outer, TExpr, name, int, binary, assign, c
 use Rattle.c_tree.specs.TStmt as st
 use Rattle.c_tree.specs.TStmt.{LocalDecl, TStmt, TStmts, expr, while_, return_, block, no_stmts, more_stmts}
 use Rattle.c_tree.specs.TUnit.{Func, TypedUnit, Program, plain, func}
-use Rattle.c_tree.specs.Context.{putchar_name}
-use Rattle.c_tree.specs.Run.{main_name}
-use Rattle.c_tree.specs.WrittenDeclr.{declared}
-use Rattle.c_tree.specs.Reads.{ReadsTokens}
+use Rattle.c_tree.specs.Library.{putchar_name, main_name}
+use Rattle.c_tree.specs.TreeDecl.{declared}
+use Rattle.c_grammar.specs.Reads.{ReadsTokens}
 use Rattle.svr3.specs.Different.{place_in, are_different}
 
 -- ---- expressions

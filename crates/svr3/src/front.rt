@@ -3,8 +3,8 @@ ghost use Rattle.std.specs.Prelude.{◌≡◌, ◌<◌, ◌≤◌, length, map, 
 ghost use Rattle.std.specs.List.{AllZip};
 ghost use Rattle.c_tree.specs.TreeOf as tree;
 ghost use Rattle.c_tree.specs.TypedOf as typed;
-ghost use Rattle.c_tree.specs.RuleUnit.{IsTyped};
-ghost use Rattle.c_tree.specs.JoinChecks.{IsJoined};
+ghost use Rattle.c_rule.specs.RuleUnit.{IsTyped};
+ghost use Rattle.c_join.specs.JoinChecks.{IsJoined};
 ghost use Rattle.svr3.specs.Front.{IsSource, IsTextErr, IsUnitErr, IsUnitsErr, IsRightErr, IsAccepted, lex_err, parse_err, join_refused, units_of};
 ghost use Rattle.svr3.specs.Reading.{texts_of};
 

@@ -1,7 +1,7 @@
 use Rattle.std.proofs.Common.{◌≡◌, ◌∙◌, ◌≤◌, [], ap, sym, subst, arith}
 use Rattle.std.proofs.lemmas.Result.{IfOk-weaker}
 use Rattle.c_tree.specs.Bodies.{BodyAt}
-use Rattle.c_tree.specs.Context.{Linked}
+use Rattle.c_run.specs.Context.{Linked}
 use Rattle.c_tree.specs.TypedOf.{func_of}
 use Rattle.gen_expr.specs.Emitted.{end_of}
 use Rattle.gen_expr.specs.Placing.{AreRows}

@@ -1,5 +1,5 @@
 use Rattle.c_tree.specs.TypedOf.{func_of}
-use Rattle.c_tree.specs.Context.{linked}
+use Rattle.c_run.specs.Context.{linked}
 use Rattle.svr3.specs.SmallForm.{program_of}
 use Rattle.svr3.specs.Reading.{texts_of}
 use Rattle.svr3.proofs.MainFits.{main_taken}

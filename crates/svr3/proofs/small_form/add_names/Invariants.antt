@@ -1,6 +1,6 @@
 use Rattle.std.proofs.Common.{◌≡◌, ◌++◌, map, drop}
 use Rattle.c_tree.specs.TreeOf.{item_of}
-use Rattle.c_tree.specs.WrittenDeclr.{declared}
+use Rattle.c_tree.specs.TreeDecl.{declared}
 use Rattle.svr3.proofs.small_form.add_names.Given as goal
 
 abbrev pub invariant-loop-item : goal.invariant-loop-item
