@@ -4,6 +4,8 @@
 #![tactic(auto)]
 
 #[cfg(test)]
+mod constants;
+#[cfg(test)]
 mod expressions;
 #[cfg(test)]
 mod fresh;
@@ -11,5 +13,7 @@ mod fresh;
 mod joins;
 #[cfg(test)]
 mod scopes;
+#[cfg(test)]
+mod starts;
 #[cfg(test)]
 mod units;

@@ -1,5 +1,5 @@
 // Typed expressions built by hand, as the checker makes them of the texts in the comments.
-use crate::{constant, is_known, is_zero, place_spot, pointer_spot};
+use c_constant::{constant, is_known, is_zero, place_spot, pointer_spot};
 use c_tree::{Ref, TBinary, TExpr};
 use c_type::{CType, Kind};
 use std::alloc::{AllocError, Global};

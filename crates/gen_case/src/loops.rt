@@ -14,9 +14,9 @@ ghost use Rattle.c_tree.specs.TypedOf.{expr_of, stmt_of, stmts_from, local_decl_
 ghost use Rattle.gen_expr.specs.Mains.{AllPlain};
 ghost use Rattle.gen_expr.specs.Whole.{IsFormMain};
 
-use crate::small_text;
 use c_tree::{Ref, TBinary, TBlock, TDeclr, TExpr, TFunc, TLocal, TLocalDecl, TStmt};
 use c_type::{CType, Kind};
+use gen_expr::small_text;
 use mach_exec::{Cpu, Event, step};
 use mach_mem::{Mem, Regions, read32};
 use num_le::Name;

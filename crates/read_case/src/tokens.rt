@@ -1,4 +1,4 @@
-use crate::{LexErr, Tok, Token, Tokens, lex};
+use c_lex::{LexErr, Tok, Token, Tokens, lex};
 use std::alloc::Global;
 use std::process::Abort;
 use std::test::Fail;

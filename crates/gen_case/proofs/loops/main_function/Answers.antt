@@ -15,7 +15,7 @@ use Rattle.gen_expr.specs.Mains.{AllInt, AllPlain}
 use Rattle.gen_expr.specs.Forms.{IsFormStmts, IsNumbered, stmts_weight}
 use Rattle.gen_expr.specs.Whole.{IsFormMain}
 use Rattle.gen_expr.proofs.Coded.{plain_starts}
-use Rattle.gen_expr.proofs.tests.main_function.Goals as goal
+use Rattle.gen_case.proofs.loops.main_function.Goals as goal
 
 abbrev n : TExpr
 n = name (num Int) (Local 0)

@@ -1,5 +1,5 @@
 // What no clause says: that the step is a program that ends, on instructions of several rows.
-use super::*;
+use mach_exec::{Cpu, Event, step};
 use mach_mem::{Regions, read32};
 use std::test::Fail;
 

@@ -1,4 +1,4 @@
-use crate::{
+use asm_item::{
     DefGroup, Field, Item, Items, Keyword, Label, Size, Val, Word, is_file, is_name, is_name_byte,
     is_normal, print, register_name,
 };

@@ -1,6 +1,6 @@
-use crate::parse;
 use c_expr::ParseErr;
 use c_lex::lex;
+use c_parse::parse;
 use c_tree::{Block, Expr, Ext, Stmt, SwItem, Unit};
 use std::alloc::{AllocError, Global};
 use std::process::Abort;

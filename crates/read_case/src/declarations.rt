@@ -1,4 +1,4 @@
-use crate::{Head, declared_name, declares_function, external, local};
+use c_decl::{Head, declared_name, declares_function, external, local};
 use c_expr::{ParseErr, Typedefs};
 use c_lex::{Tokens, lex};
 use c_tree::{Declr, Ext, LocalDecl, TypeSpec, Types};

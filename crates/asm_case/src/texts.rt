@@ -1,5 +1,5 @@
-use crate::{AsmErr, read};
 use asm_item::{Item, Items, is_normal, print};
+use asm_read::{AsmErr, read};
 use isa386::{Cond, Ins, Opnd, Target};
 use std::alloc::{AllocError, Global};
 use std::test::Fail;

@@ -1,4 +1,4 @@
-use crate::{ParseErr, Typedefs, expr};
+use c_expr::{ParseErr, Typedefs, expr};
 use c_lex::{Tokens, lex};
 use c_tree::{AssignOp, BinaryOp, Expr, StepOp, UnaryOp};
 use num_le::Name;

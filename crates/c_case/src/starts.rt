@@ -1,0 +1,64 @@
+// The lines of the starts of a file, in a program built by hand.
+ghost use Rattle.std.specs.Prelude.{◌≡◌, IfOk, length};
+
+use c_tree::{Program, TBlock, TExpr, TExt, TFunc, TSpec, TStmt, TypedUnit, starts};
+use c_type::{CType, Kind, Tags};
+use num_le::Name;
+use std::alloc::{AllocError, Global};
+use std::test::Fail;
+
+fn int() -> CType {
+    CType::Num(Kind::Int)
+}
+
+fn body(alloc: Global) -> Result<TBlock, AllocError> {
+    let mut stmts = Vec::new(alloc);
+    let step = TStmt::Expr(4, 5, TExpr::Int(int(), 1));
+    stmts.push(TStmt::For(1, 4, None, None, None, Box::new(alloc, step)?))?;
+    stmts.push(TStmt::Return(5, 6, None))?;
+    Ok(TBlock {
+        line: 2,
+        locals: Vec::new(alloc),
+        stmts,
+        close_line: 7,
+    })
+}
+
+fn program(alloc: Global) -> Result<Program, AllocError>
+    ensures one_file { IfOk result (λ p. length p.units.items ≡ 1) }
+{
+    let func = TFunc {
+        name: Name::of(alloc, b"main")?,
+        is_static: false,
+        result: int(),
+        params: Vec::new(alloc),
+        declared: Vec::new(alloc),
+        open: 0,
+        body: body(alloc)?,
+        close: 6,
+    };
+    let mut exts = Vec::new(alloc);
+    exts.push(TExt::Func(TSpec::Plain(int()), func))?;
+    let mut units = Vec::new(alloc);
+    units.push(TypedUnit {
+        tags: Tags {
+            list: Vec::new(alloc),
+        },
+        texts: Vec::new(alloc),
+        exts,
+    })?;
+    Ok(Program {
+        units,
+        classes: Vec::new(alloc),
+    })
+}
+
+#[test]
+fn a_for_has_three_starts(rt: HostRuntime) -> Result<(), Fail> {
+    let p = program(rt.alloc())?;
+    assert_eq!(rt;
+        starts(rt.alloc(), &p, 0)?.as_slice(),
+        [2, 4, 4, 4, 5, 6, 7].as_slice()
+    );
+    Ok(())
+}
