@@ -4,8 +4,6 @@
 #![tactic(auto)]
 
 #[cfg(test)]
-mod constants;
-#[cfg(test)]
 mod expressions;
 #[cfg(test)]
 mod fresh;
@@ -13,7 +11,5 @@ mod fresh;
 mod joins;
 #[cfg(test)]
 mod scopes;
-#[cfg(test)]
-mod starts;
 #[cfg(test)]
 mod units;

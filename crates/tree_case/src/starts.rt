@@ -1,3 +1,4 @@
+#![tactic(none)]
 // The lines of the starts of a file, in a program built by hand.
 ghost use Rattle.std.specs.Prelude.{◌≡◌, IfOk, length};
 
@@ -11,6 +12,7 @@ fn int() -> CType {
     CType::Num(Kind::Int)
 }
 
+/// `{ for (;;) 1; return; }`, over six lines.
 fn body(alloc: Global) -> Result<TBlock, AllocError> {
     let mut stmts = Vec::new(alloc);
     let step = TStmt::Expr(4, 5, TExpr::Int(int(), 1));
@@ -24,29 +26,42 @@ fn body(alloc: Global) -> Result<TBlock, AllocError> {
     })
 }
 
-fn program(alloc: Global) -> Result<Program, AllocError>
-    ensures one_file { IfOk result (λ p. length p.units.items ≡ 1) }
-{
-    let func = TFunc {
-        name: Name::of(alloc, b"main")?,
+/// `main() BODY`
+fn function(alloc: Global, name: Name, body: TBlock) -> TFunc {
+    TFunc {
+        name,
         is_static: false,
         result: int(),
         params: Vec::new(alloc),
         declared: Vec::new(alloc),
         open: 0,
-        body: body(alloc)?,
+        body,
         close: 6,
-    };
+    }
+}
+
+/// A unit with one such function.
+fn unit(alloc: Global) -> Result<TypedUnit, AllocError> {
+    let name = Name::of(alloc, b"main")?;
+    let func = function(alloc, name, body(alloc)?);
     let mut exts = Vec::new(alloc);
     exts.push(TExt::Func(TSpec::Plain(int()), func))?;
-    let mut units = Vec::new(alloc);
-    units.push(TypedUnit {
+    Ok(TypedUnit {
         tags: Tags {
             list: Vec::new(alloc),
         },
         texts: Vec::new(alloc),
         exts,
-    })?;
+    })
+}
+
+/// The program of one unit.
+#[tactic(auto)]
+fn program(alloc: Global, unit: TypedUnit) -> Result<Program, AllocError>
+    ensures one_file { IfOk result (λ p. length p.units.items ≡ 1) }
+{
+    let mut units = Vec::new(alloc);
+    units.push(unit)?;
     Ok(Program {
         units,
         classes: Vec::new(alloc),
@@ -54,11 +69,11 @@ fn program(alloc: Global) -> Result<Program, AllocError>
 }
 
 #[test]
+#[tactic(auto)]
 fn a_for_has_three_starts(rt: HostRuntime) -> Result<(), Fail> {
-    let p = program(rt.alloc())?;
-    assert_eq!(rt;
-        starts(rt.alloc(), &p, 0)?.as_slice(),
-        [2, 4, 4, 4, 5, 6, 7].as_slice()
-    );
+    let unit = unit(rt.alloc())?;
+    let p = program(rt.alloc(), unit)?;
+    let lines = starts(rt.alloc(), &p, 0)?;
+    assert_eq!(rt; lines.as_slice(), [2, 4, 4, 4, 5, 6, 7].as_slice());
     Ok(())
 }
