@@ -21,6 +21,3 @@ pub use normal::{is_file, is_name, is_name_byte, is_normal};
 pub use printing::print;
 pub use registers::register_name;
 pub use words::Keyword;
-
-#[cfg(test)]
-mod tests;
