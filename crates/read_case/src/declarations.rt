@@ -298,28 +298,51 @@ fn what_stands_in_blocks(rt: HostRuntime) -> Result<(), Fail> {
     Ok(())
 }
 
+/// Whether `size` and `link` are declared from line 1 on as typedef names.
+fn declares_typedefs(alloc: Global, defs: &mut Typedefs) -> bool {
+    let head = read(alloc, b"typedef word size,\n(*link)();", defs);
+    matches!(&head, Ok(Head::Whole(Ext::Typedef(1, _, _))))
+}
+
+/// Whether a declarator is a pointer whose star stands on a line.
+fn is_pointer(declr: &Declr, line: u32) -> bool {
+    match declr {
+        Declr::Pointer(at, _) => *at == line,
+        _ => false,
+    }
+}
+
+/// Whether an array `x` of pointers is declared, with its star on line 3.
+fn declares_pointers(alloc: Global, defs: &mut Typedefs) -> bool {
+    let head = read(alloc, b"static\nsize\n*x[2];", defs);
+    let Ok(head) = &head else {
+        return false;
+    };
+    match first_declr(head) {
+        Some(declr) => {
+            is_pointer(declr, 3) && declared_name(declr).is(b"x") && !declares_function(declr)
+        }
+        None => false,
+    }
+}
+
+/// Whether a typedef name in place of a declarator is refused, on line 2.
+fn refuses_declarator(alloc: Global, defs: &mut Typedefs) -> bool {
+    let head = read(alloc, b"int\nsize;", defs);
+    matches!(&head, Err(ParseErr::NotC(2)))
+}
+
 #[test]
 fn typedef_names_and_lines(rt: HostRuntime) -> Result<(), Fail> {
     let alloc = rt.alloc();
     let mut defs = word(alloc)?;
-    let head = read(alloc, b"typedef word size,\n(*link)();", &mut defs)?;
+    assert!(rt; declares_typedefs(alloc, &mut defs));
     for name in [b"word", b"size", b"link"] {
         assert!(rt; defs.has(name));
     }
-    assert!(rt; matches!(&head, Head::Whole(Ext::Typedef(1, _, _))));
-    let head = read(alloc, b"static\nsize\n*x[2];", &mut defs)?;
+    assert!(rt; declares_pointers(alloc, &mut defs));
     assert!(rt; !defs.has(b"x"));
-    let Some(declr) = first_declr(&head) else {
-        return Err(Fail::from(ParseErr::Memory));
-    };
-    assert!(rt; matches!(declr, Declr::Pointer(3, _)));
-    assert!(rt; declared_name(declr).is(b"x") && !declares_function(declr));
-    assert!(rt;
-        matches!(
-            read(alloc, b"int\nsize;", &mut defs),
-            Err(ParseErr::NotC(2))
-        )
-    );
+    assert!(rt; refuses_declarator(alloc, &mut defs));
     Ok(())
 }
 
@@ -339,24 +362,57 @@ fn repeated(
     Ok(whole)
 }
 
+/// Whether a text is read, where no typedef name is known.
+fn is_read(alloc: Global, text: &[u8]) -> bool {
+    let mut defs = Typedefs::new(alloc);
+    read(alloc, text, &mut defs).is_ok()
+}
+
+/// Whether a text is refused, where no typedef name is known.
+fn is_refused(alloc: Global, text: &[u8]) -> bool {
+    let mut defs = Typedefs::new(alloc);
+    let head = read(alloc, text, &mut defs);
+    matches!(&head, Err(ParseErr::NotC(_)))
+}
+
+/// The number of objects that a text declares.
+fn objects(alloc: Global, text: &[u8]) -> Option<usize> {
+    let mut defs = Typedefs::new(alloc);
+    let head = read(alloc, text, &mut defs).ok()?;
+    match &head {
+        Head::Whole(Ext::Object(_, _, items)) => Some(items.len()),
+        _ => None,
+    }
+}
+
+/// A first text, another so many times, and a last one; and whether these are read.
+static REPEATED: [(&[u8], &[u8], u32, &[u8], bool); 5] = [
+    (b"int ", b"*", 197, b"x;", true),
+    (b"int ", b"*", 198, b"x;", false),
+    (b"int ", b"*", 100000, b"x;", false),
+    (b"", b"int ", 60000, b"x;", false),
+    (b"int a[] = { 1", b",1", 130000, b", };", true),
+];
+
 #[test]
 fn as_deep_and_as_long_as_may_be(rt: HostRuntime) -> Result<(), Fail> {
     let alloc = rt.alloc();
-    let mut defs = Typedefs::new(alloc);
-    let deepest = repeated(alloc, b"int ", b"*", 197, b"x;")?;
-    assert!(rt; read(alloc, &deepest, &mut defs).is_ok());
-    for stars in [198, 100000] {
-        let too_deep = repeated(alloc, b"int ", b"*", stars, b"x;")?;
-        assert!(rt; matches!(read(alloc, &too_deep, &mut defs), Err(ParseErr::NotC(_))));
+    for (first, text, times, last, wanted) in &REPEATED {
+        let whole = repeated(alloc, *first, *text, *times, *last)?;
+        let is_answered = if *wanted {
+            is_read(alloc, &whole)
+        } else {
+            is_refused(alloc, &whole)
+        };
+        assert!(rt; is_answered);
     }
+    Ok(())
+}
+
+#[test]
+fn as_many_as_may_be(rt: HostRuntime) -> Result<(), Fail> {
+    let alloc = rt.alloc();
     let longest = repeated(alloc, b"int a", b",a", 131000, b";")?;
-    let Head::Whole(Ext::Object(_, _, items)) = read(alloc, &longest, &mut defs)? else {
-        return Err(Fail::from(ParseErr::Memory));
-    };
-    assert_eq!(rt; items.len(), 131001);
-    let words = repeated(alloc, b"", b"int ", 60000, b"x;")?;
-    assert!(rt; matches!(read(alloc, &words, &mut defs), Err(ParseErr::NotC(_))));
-    let values = repeated(alloc, b"int a[] = { 1", b",1", 130000, b", };")?;
-    assert!(rt; read(alloc, &values, &mut defs).is_ok());
+    assert_eq!(rt; objects(alloc, &longest), Some(131001));
     Ok(())
 }
