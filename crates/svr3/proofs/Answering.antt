@@ -14,9 +14,9 @@ use Rattle.c_tree.specs.Values.{Ended, Stopped}
 use Rattle.c_tree.specs.State.{State, Halt, no_changes}
 use Rattle.c_tree.specs.Run.{run}
 use Rattle.c_tree.proofs.LaterRun.{stops_at}
-use Rattle.gen_expr.specs.Whole.{started}
-use Rattle.gen_expr.specs.Laws.{Exited, Reached}
-use Rattle.gen_expr.proofs.WholeRuns.{whole_ends, whole_stops}
+use Rattle.gen_small.specs.Whole.{started}
+use Rattle.gen_small.specs.Laws.{Exited, Reached}
+use Rattle.gen_small.proofs.WholeRuns.{whole_ends, whole_stops}
 use Rattle.outside.specs.Causes.{Rose}
 use Rattle.outside.specs.Told.{Held}
 use Rattle.svr3.specs.declared.process.Halt as h

@@ -11,7 +11,7 @@ use Rattle.mach_exec.specs.Operand.{reg}
 use Rattle.mach_exec.specs.Strings.{is_readable, each_byte, bytes_from, with_bytes}
 use Rattle.mach_exec.specs.Step.{stepped}
 use Rattle.mach_exec.specs.System.{Called, Ended, Returned, argument, called, exited, transferred, succeeded, failed, bad_descriptor, bad_place, bad_call}
-use Rattle.gen_expr.specs.Runs.{Progress, Goes, Exits, Raises, performed, followed, advanced}
+use Rattle.gen_small.specs.Runs.{Progress, Goes, Exits, Raises, performed, followed, advanced}
 use Rattle.svr3.specs.Process.{process, status_of, cpu_behind, output_of, exit_called, transfer_called, stored_at, read_called, appended_from, write_called, written_at, written}
 
 not_equal : (a b : ℕ) → (a ≡ b → ⊥) → (a == b) ≡ false

@@ -12,10 +12,10 @@ use Rattle.c_tree.specs.declared.TFunc.{TFunc}
 use Rattle.c_tree.specs.Reads.{ReadsTokens}
 use Rattle.c_tree.specs.TUnit.{Func}
 use Rattle.c_tree.specs.Context.{linked}
-use Rattle.gen_expr.specs.Items.{Name, Item, Start, Open, Op, Label, Goto, If, CallTo}
-use Rattle.gen_expr.specs.Emitted.{width, item_bytes, emitted}
-use Rattle.gen_expr.specs.Whole.{whole_code, label_in, base, text_of}
-use Rattle.gen_expr.proofs.Weighed.{size, whole_size}
+use Rattle.gen_small.specs.Items.{Name, Item, Start, Open, Op, Label, Goto, If, CallTo}
+use Rattle.gen_small.specs.Emitted.{width, item_bytes, emitted}
+use Rattle.gen_small.specs.Whole.{whole_code, label_in, base, text_of}
+use Rattle.gen_small.proofs.Weighed.{size, whole_size}
 use Rattle.svr3.specs.SmallForm.{AreSmallTokens, IsSmallText, small_main, are_few, program_of}
 use Rattle.svr3.specs.Front.{IsSmall, IsSource}
 use Rattle.svr3.specs.Given.{Gives}

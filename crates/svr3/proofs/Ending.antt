@@ -4,8 +4,8 @@ use Rattle.std.specs.Prelude.{Option}
 use Rattle.std.proofs.lemmas.List.{take-append-le, ext_get_or}
 use Rattle.std.specs.Io.KnownBytes.{Appends}
 use Rattle.mach_mem.specs.Space.{Space, IsInitial}
-use Rattle.gen_expr.specs.Runs.{Process, Goes, Exits, Raises, and_on, ran}
-use Rattle.gen_expr.specs.Laws.{Exited}
+use Rattle.gen_small.specs.Runs.{Process, Goes, Exits, Raises, and_on, ran}
+use Rattle.gen_small.specs.Laws.{Exited}
 use Rattle.svr3.specs.declared.process.Halt.{Halt}
 use Rattle.svr3.specs.declared.process.Halt.TheVariants as halt
 use Rattle.svr3.specs.Output.{GainsFront}

@@ -3,7 +3,7 @@ use Rattle.std.proofs.Common.{◌≡◌, ℕ, zero, suc, ◌≤◌, List, [], �
 use Rattle.std.specs.Prelude.{Option}
 use Rattle.mach_mem.specs.Space.{Space}
 use Rattle.mach_exec.specs.declared.Cpu.{Cpu}
-use Rattle.gen_expr.specs.Runs.{Process, Progress, Goes, Exits, Raises, advanced, and_on, ran}
+use Rattle.gen_small.specs.Runs.{Process, Progress, Goes, Exits, Raises, advanced, and_on, ran}
 use Rattle.svr3.specs.declared.process.Halt.{Halt}
 use Rattle.svr3.specs.declared.process.Halt.TheVariants as halt
 use Rattle.svr3.specs.Output.{Moves, GainsFront}

@@ -18,13 +18,13 @@ use Rattle.c_tree.specs.WrittenStmt.{WrittenBlock, plain_block, plain_stmts, spe
 use Rattle.c_tree.specs.WrittenUnit as wu
 use Rattle.c_tree.specs.WrittenUnit.{WrittenExt, WrittenHead, plain_ext, plain_unit, spell_ext, spell_exts, spell_head, AreExts, IsExt, specs_or_none}
 use Rattle.c_tree.specs.Reads.{ReadsTokens}
-use Rattle.gen_expr.specs.Forms.{IsFormStmts, IsNumbered, stmts_weight}
+use Rattle.gen_small.specs.Forms.{IsFormStmts, IsNumbered, stmts_weight}
 use Rattle.c_decl.proofs.DeclrAgain.{declr_longer}
 use Rattle.c_tree.specs.Context.{linked}
 use Rattle.c_tree.specs.Lasting.{lastings_of}
 use Rattle.c_tree.specs.Mentions.{in_local, in_stmts}
-use Rattle.gen_expr.specs.Mains.{AllInt}
-use Rattle.gen_expr.specs.Whole.{IsFormMain, IsSmallProgram}
+use Rattle.gen_small.specs.Mains.{AllInt}
+use Rattle.gen_small.specs.Whole.{IsFormMain, IsSmallProgram}
 use Rattle.svr3.specs.SmallForm.{IsSmallText, small_main, main_in, body_in, main_with, is_body, is_main, is_line, is_plain, are_variables, are_few, names_in, stmts_in, stmts_starts, unit_size, program_of}
 use Rattle.svr3.proofs.Shaped.{none_some, mapped, picked, all_settled, plain_decls, numbered_append}
 use Rattle.svr3.proofs.Tokened.{both, few_on, stmts_fit}

@@ -21,9 +21,9 @@ use Rattle.c_tree.specs.Starts.{Start, starts_local, starts_stmt, starts_stmts}
 use Rattle.c_tree.specs.Bodies.{Auto, autos_local, autos_stmt, autos_stmts}
 use Rattle.c_tree.specs.Mentions.{Mention, in_expr, in_local, in_stmt, in_stmts}
 use Rattle.c_tree.specs.WrittenDeclr.{declared}
-use Rattle.gen_expr.specs.Small.{IsSmall, IsVariable, IsSum}
-use Rattle.gen_expr.specs.Forms.{AreThere, IsNumbered}
-use Rattle.gen_expr.specs.Mains.{AllInt, AllPlain}
+use Rattle.gen_small.specs.Small.{IsSmall, IsVariable, IsSum}
+use Rattle.gen_small.specs.Forms.{AreThere, IsNumbered}
+use Rattle.gen_small.specs.Mains.{AllInt, AllPlain}
 use Rattle.svr3.specs.Different.{place_in}
 use Rattle.svr3.specs.SmallForm.{variable, number, putchar, sum_of, joined, sum_in, variable_in, is_putchar, argument_in, action_in, at_line, is_line, looped, returned, followed, assigned, called, stmt_in, stmts_in, stmt_starts, stmts_starts, object, locals_in, decls_in, names_in}
 use Rattle.svr3.proofs.SmallTrees.{place_below}

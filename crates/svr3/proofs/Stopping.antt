@@ -8,7 +8,7 @@ use Rattle.mach_exec.specs.declared.Event.TheVariants.{Next, Trap, System, Signa
 use Rattle.mach_mem.specs.Space.{Space}
 use Rattle.mach_exec.specs.Step.{stepped}
 use Rattle.mach_exec.specs.System.{Called, Ended, Returned, called}
-use Rattle.gen_expr.specs.Runs.{Process, Progress, Goes, Exits, Raises, performed, followed, advanced, and_on, ran}
+use Rattle.gen_small.specs.Runs.{Process, Progress, Goes, Exits, Raises, performed, followed, advanced, and_on, ran}
 
 -- a list begins with another
 pub record Begins (front whole : List ℕ) : Type 0 where

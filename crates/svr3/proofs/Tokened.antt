@@ -17,8 +17,8 @@ use Rattle.c_tree.specs.WrittenExpr as w
 use Rattle.c_tree.specs.WrittenExpr.{Written, Args, Others, plain, plains, spell, spell_args, level, IsLevelled, first}
 use Rattle.c_tree.specs.WrittenStmt as z
 use Rattle.c_tree.specs.WrittenStmt.{WrittenStmt, WrittenStmts, plain_stmt, plain_stmts, spell_stmt, spell_stmts, IsStmt, AreStmts}
-use Rattle.gen_expr.specs.Code.{temps}
-use Rattle.gen_expr.specs.Forms.{IsFormStmt, IsFormStmts, weight, stmt_weight, stmts_weight}
+use Rattle.gen_small.specs.Code.{temps}
+use Rattle.gen_small.specs.Forms.{IsFormStmt, IsFormStmts, weight, stmt_weight, stmts_weight}
 use Rattle.svr3.specs.Different.{place_in}
 use Rattle.svr3.specs.SmallForm.{round_open, are_few, variable, number, sum_in, is_putchar, argument_in, action_in, stmt_in, stmts_in, putchar}
 use Rattle.svr3.proofs.Shaped.{none_some, some_is, mapped, picked, sum_parts, sum_term, variable_in_term, assignment_parts, call_parts, action_term, loop_parts, return_parts, done_parts, more_parts}

@@ -10,7 +10,7 @@ use Rattle.c_tree.specs.Run.{run}
 use Rattle.c_tree.specs.JoinChecks as join
 use Rattle.c_whole.specs.declared.JoinErr.{JoinErr}
 use Rattle.c_whole.specs.declared.JoinErr.TheVariants as err
-use Rattle.gen_expr.specs.Whole.{started}
+use Rattle.gen_small.specs.Whole.{started}
 use Rattle.outside.specs.Causes.{Rose}
 use Rattle.outside.specs.Told.{Held}
 use Rattle.svr3.specs.Command.{Request, asked}

@@ -6,7 +6,7 @@ use Rattle.c_tree.specs.TypedOf.{func_of}
 use Rattle.c_tree.specs.TUnit.{Func}
 use Rattle.c_tree.specs.Context.{linked}
 use Rattle.c_type.specs.Tokens.{Token}
-use Rattle.gen_expr.specs.Whole.{text_of}
+use Rattle.gen_small.specs.Whole.{text_of}
 use Rattle.svr3.specs.SmallForm.{AreSmallTokens, program_of}
 use Rattle.svr3.specs.Front.{IsSmall}
 use Rattle.svr3.specs.declared.small_form.Fault.{Fault}

@@ -2,7 +2,7 @@
 use Rattle.std.specs.Prelude.{ℕ, ◌≡◌, List, [], Option}
 use Rattle.mach_mem.specs.Space.{Space, IsInitial}
 use Rattle.c_tree.specs.TUnit.{Program}
-use Rattle.gen_expr.specs.Whole.{started}
+use Rattle.gen_small.specs.Whole.{started}
 use Rattle.outside.specs.Causes.{Rose}
 use Rattle.svr3.specs.declared.process.Halt.{Halt}
 use Rattle.svr3.specs.Process.{StopsWith, Breaks}

@@ -7,9 +7,9 @@ use Rattle.mach_exec.specs.declared.Event.{Event}
 use Rattle.mach_exec.specs.declared.Event.TheVariants.{Next, Trap, System, Signal}
 use Rattle.mach_exec.specs.Step.{stepped}
 use Rattle.mach_exec.specs.System.{Called, Ended, Returned, argument, called, exited, transferred, stored, appended, failed}
-use Rattle.gen_expr.specs.Runs.{Process, Goes, Exits, Raises, advanced, ran}
-use Rattle.gen_expr.specs.Runs as runs
-use Rattle.gen_expr.specs.Laws.{Exited}
+use Rattle.gen_small.specs.Runs.{Process, Goes, Exits, Raises, advanced, ran}
+use Rattle.gen_small.specs.Runs as runs
+use Rattle.gen_small.specs.Laws.{Exited}
 use Rattle.svr3.specs.declared.process.Progress.{Progress}
 use Rattle.svr3.specs.declared.process.Progress.TheVariants as progress
 use Rattle.svr3.specs.declared.process.Halt.{Halt}

@@ -1,7 +1,7 @@
 -- A program in memory that has executed nothing, and what running it says.
 use Rattle.std.specs.Prelude.{ℕ, List, [], ◌≡◌, Option, Result, Ok, Err}
 use Rattle.mach_mem.specs.Space.{Space, IsInitial}
-use Rattle.gen_expr.specs.Whole.{started}
+use Rattle.gen_small.specs.Whole.{started}
 use Rattle.svr3.specs.declared.process.Halt.{Halt}
 use Rattle.svr3.specs.declared.machine.Stuck.{Stuck}
 use Rattle.svr3.specs.declared.machine.Stuck.TheVariants.{WriteFault, Memory}

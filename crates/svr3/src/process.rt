@@ -3,7 +3,7 @@ ghost use Rattle.std.specs.Prelude.{◌≡◌, ◌≤◌, ◌++◌, ℕ, [], Lis
 ghost use Rattle.mach_exec.specs.System.{Called, argument, called, with_cf};
 ghost use Rattle.mach_exec.specs.Operand.{with_reg};
 ghost use Rattle.mach_exec.specs.Strings.{is_readable, each_byte, bytes_from};
-ghost use Rattle.gen_expr.specs.Runs.{Process, Goes, advanced};
+ghost use Rattle.gen_small.specs.Runs.{Process, Goes, advanced};
 ghost use Rattle.outside.specs.Causes.{Rose};
 ghost use Rattle.svr3.specs.Output.{Moves, GainsFront};
 ghost use Rattle.svr3.specs.Process.{process, status_of, cpu_behind, output_of, by_place, exit_called, transfer_called, read_called, write_called, written, progressed, StopsBefore, StopsWith, Breaks};

@@ -13,7 +13,7 @@ use crate::front::Source;
 use crate::small_form::{Fault, small_main};
 use c_lex::{Tok, Token};
 use c_tree::TFunc;
-use gen_expr::small_text;
+use gen_small::small_text;
 use std::alloc::Global;
 
 // The limit of a text of the small form, in bytes.
