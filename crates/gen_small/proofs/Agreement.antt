@@ -3,6 +3,7 @@ use Rattle.std.proofs.Common.{◌≡◌, ℕ, suc, ◌+◌, ◌-◌, ◌*◌, �
 use Rattle.std.specs.Prelude.{nat_eq, slice_index, slice_set}
 use Rattle.std.proofs.lemmas.Bool.{cases_lt, eqb-true, and_parts}
 use Rattle.std.proofs.lemmas.List.{get_or_append_left, get_or_at}
+use Rattle.mach_mem.specs.Addresses.{stack_start}
 use Rattle.c_type.specs.Names.{pick}
 use Rattle.c_type.specs.Types.{CType, same_type}
 use Rattle.c_type.specs.Sizes.{size}
@@ -27,7 +28,7 @@ apart_in : (a n b k c : ℕ) → IsApart a n b k → b ≤ c → c + 4 ≤ b + k
 apart_in a n b k c (inl h) lo hi = inl (omega arith)
 apart_in a n b k c (inr h) lo hi = inr (omega arith)
 
-temp_room : (base size few j : ℕ) → 2143289344 + (size + 256) ≤ base → j < few → few ≤ 64 → (base - (size + 256) ≤ base - (size + 4 * suc j)) × (base - (size + 4 * suc j) + 4 ≤ base - (size + 256) + 256)
+temp_room : (base size few j : ℕ) → stack_start + (size + 256) ≤ base → j < few → few ≤ 64 → (base - (size + 256) ≤ base - (size + 4 * suc j)) × (base - (size + 4 * suc j) + 4 ≤ base - (size + 256) + 256)
 temp_room base size few j low lt le = (omega arith, omega arith)
 
 same_is : (o q : Object) → same_object o q ≡ true → o ≡ q
@@ -261,7 +262,7 @@ module _ (l : Layout) (w : Linked) where
           writable = λ q z h. let b = now q z h in subst (λ d. CanWrite mem' (place w d q) z.size) (sym same.made) (subst (λ n. CanWrite mem' (place w s.made q) n) b.size_is (can_write_shaped _ mem mem' _ wr.shaped (placed.writable q b.old b.was)));
           apart = λ q1 q2 z1 z2 h1 h2 ne. let b1 = now q1 z1 h1 in let b2 = now q2 z2 h2 in subst (λ d. IsApart (place w d q1) z1.size (place w d q2) z2.size) (sym same.made) (subst (λ n. IsApart (place w s.made q1) n (place w s.made q2) z2.size) b1.size_is (subst (λ n. IsApart (place w s.made q1) b1.old.size (place w s.made q2) n) b2.size_is (placed.apart q1 q2 b1.old b2.old b1.was b2.was ne)));
           off = λ q z h. let b = now q z h in subst (λ d. KeepsOff gs (place w d q) z.size) (sym same.made) (subst (λ n. KeepsOff gs (place w s.made q) n) b.size_is (placed.off q b.old b.was));
-          free = λ q z h. let b = now q z h in subst (λ d. IsApart (place w d q) z.size 2143289344 (floor gs - 2143289344)) (sym same.made) (subst (λ n. IsApart (place w s.made q) n 2143289344 (floor gs - 2143289344)) b.size_is (placed.free q b.old b.was));
+          free = λ q z h. let b = now q z h in subst (λ d. IsApart (place w d q) z.size stack_start (floor gs - stack_start)) (sym same.made) (subst (λ n. IsApart (place w s.made q) n stack_start (floor gs - stack_start)) b.size_is (placed.free q b.old b.was));
         };
         layered = ag.layered;
         ebp_is = ag.ebp_is;
@@ -292,9 +293,9 @@ module _ (l : Layout) (w : Linked) where
   }
 
   -- memory is written in the part of the stack that no frame uses
-  pub scratch_agrees : (text : List ℕ) (s : State) (gs : List Ghost) (ebp esp : ℕ) (mem mem' : Space) (input output : List ℕ) (turns : ℕ) (made : List Made) (a : ℕ) (bs : List ℕ) → Agree l w text s gs ebp esp mem input output turns made → 2143289344 ≤ a → a + length bs ≤ floor gs → Wrote mem a bs mem' → Agree l w text s gs ebp esp mem' input output turns made
+  pub scratch_agrees : (text : List ℕ) (s : State) (gs : List Ghost) (ebp esp : ℕ) (mem mem' : Space) (input output : List ℕ) (turns : ℕ) (made : List Made) (a : ℕ) (bs : List ℕ) → Agree l w text s gs ebp esp mem input output turns made → stack_start ≤ a → a + length bs ≤ floor gs → Wrote mem a bs mem' → Agree l w text s gs ebp esp mem' input output turns made
   scratch_agrees text s gs ebp esp mem mem' input output turns made a bs ag lo hi wr =
-      quiet_agrees text s gs ebp esp mem mem' input output turns made a bs ag (off_under gs a (length bs) ag.layered hi) (λ o x h. apart_inner (place w s.made o) x.size 2143289344 (floor gs - 2143289344) a (length bs) (ag.placed.free o x h) lo (omega arith)) wr
+      quiet_agrees text s gs ebp esp mem mem' input output turns made a bs ag (off_under gs a (length bs) ag.layered hi) (λ o x h. apart_inner (place w s.made o) x.size stack_start (floor gs - stack_start) a (length bs) (ag.placed.free o x h) lo (omega arith)) wr
 
   -- one more temporary of the latest frame
   pub temp_agrees : (text : List ℕ) (s : State) (g : Ghost) (gs : List Ghost) (ebp esp : ℕ) (mem mem' : Space) (input output : List ℕ) (turns : ℕ) (made : List Made) (x : ℕ) → Agree l w text s (g ∷ gs) ebp esp mem input output turns made → length g.temps < 64 → Wrote mem (g.base - temp_depth g.site (length g.temps)) (bytes 4 x) mem' → Agree l w text s (push_temp g x ∷ gs) ebp esp mem' input output turns made

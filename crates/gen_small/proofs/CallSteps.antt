@@ -16,7 +16,7 @@ use Rattle.mach_exec.specs.Execute.{executed}
 use Rattle.mach_exec.specs.Step.{decided, stepped}
 use Rattle.mach_exec.specs.Strings.{each_byte, filled}
 use Rattle.mach_exec.specs.System.{Ended, called, exited}
-use Rattle.gen_small.specs.Runs.{Exits, advanced, after, performed}
+use Rattle.mach_exec.specs.Process.{Exits, advanced, after, performed}
 use Rattle.gen_small.specs.Ghost.{Regs, Flags, M, cpu_of, process, Prog, arrive, arrived}
 use Rattle.gen_small.specs.Items.{Layout, code_from, Stays}
 use Rattle.gen_small.specs.Code.{below}

@@ -5,6 +5,7 @@ use Rattle.std.specs.Int.{w32, cast_unsigned}
 use Rattle.std.proofs.lemmas.Bool.{le-leb}
 use Rattle.std.proofs.lemmas.Int.{of_z-to_z}
 use Rattle.std.proofs.Math.Seq.{drop-append_seam}
+use Rattle.mach_mem.specs.Addresses.{text_start}
 use Rattle.isa386.specs.declared.Callee.TheVariants.{Relative}
 use Rattle.isa386.specs.declared.Target.TheVariants.{Near}
 use Rattle.isa386.specs.declared.PlainOp.TheVariants.{Nop}
@@ -30,17 +31,17 @@ drops n (suc k) [] = drop_nil n ∙ sym (drop_nil (suc k + n))
 drops n (suc k) (x ∷ xs) = let e : suc (k + n) ≡ suc k + n = omega arith in drops n k xs ∙ ap (λ z. drop z (x ∷ xs)) e
 
 -- what stands behind an instruction
-behind : (text front rest : List ℕ) (a : ℕ) → 65536 ≤ a → code_from text a ≡ front ++ rest → code_from text (a + length front) ≡ rest
+behind : (text front rest : List ℕ) (a : ℕ) → text_start ≤ a → code_from text a ≡ front ++ rest → code_from text (a + length front) ≡ rest
 behind text front rest a low e =
-    let here : code_from text a ≡ drop (a - 65536) text = ap (λ b. if b then drop (a - 65536) text else []) (le-leb 65536 a low) in
-    let there : code_from text (a + length front) ≡ drop (a + length front - 65536) text = ap (λ b. if b then drop (a + length front - 65536) text else []) (le-leb 65536 (a + length front) (omega arith)) in
+    let here : code_from text a ≡ drop (a - text_start) text = ap (λ b. if b then drop (a - text_start) text else []) (le-leb text_start a low) in
+    let there : code_from text (a + length front) ≡ drop (a + length front - text_start) text = ap (λ b. if b then drop (a + length front - text_start) text else []) (le-leb text_start (a + length front) (omega arith)) in
     there
     ∙ ap (λ z. drop z text) (apart a (length front) low)
-    ∙ sym (drops (length front) (a - 65536) text)
+    ∙ sym (drops (length front) (a - text_start) text)
     ∙ ap (λ z. drop (length front) z) (sym here ∙ e)
     ∙ drop-append_seam front rest
   where
-    apart : (a n : ℕ) → 65536 ≤ a → a + n - 65536 ≡ a - 65536 + n
+    apart : (a n : ℕ) → text_start ≤ a → a + n - text_start ≡ a - text_start + n
     apart a n low = omega arith
 
 stored_at : (text : List ℕ) (a c : ℕ) (i : Ins) (rest : List ℕ) → code_from text a ≡ encoding i ++ rest → IsRow i → c ≡ a + length (encoding i) → c < 4294967296 → Stored text a i c
@@ -66,7 +67,7 @@ end_above : (a : ℕ) (xs : List Item) → a ≤ end_of a xs
 end_above a [] = omega arith
 end_above a (x ∷ xs) = let r = end_above (a + width x) xs in omega arith
 
-pub emitted_stands : (p : Prog) (l : Layout) (f k : ℕ) (xs : List Item) (rest : List ℕ) (a : ℕ) → 65536 ≤ a → end_of a xs < 4294967296 → code_from p.text a ≡ emitted l.label a xs ++ rest → Marked p l f k a xs → Stands p l f k a xs (end_of a xs)
+pub emitted_stands : (p : Prog) (l : Layout) (f k : ℕ) (xs : List Item) (rest : List ℕ) (a : ℕ) → text_start ≤ a → end_of a xs < 4294967296 → code_from p.text a ≡ emitted l.label a xs ++ rest → Marked p l f k a xs → Stands p l f k a xs (end_of a xs)
 emitted_stands p l f k [] rest a low top e mk = refl
 emitted_stands p l f k (Start j ∷ xs) rest a low top e mk =
     let up = end_above (a + 1) xs in

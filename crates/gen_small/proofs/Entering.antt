@@ -3,6 +3,7 @@ use Rattle.std.proofs.Common.{◌≡◌, ℕ, zero, suc, ◌+◌, ◌-◌, ◌*�
 use Rattle.std.specs.Prelude.{nat_eq, nat_lt, slice_get, take, ◌&&◌}
 use Rattle.std.proofs.lemmas.Bool.{eqb-true, le-ltb, cases_lt}
 use Rattle.std.proofs.lemmas.List.{get_or_append_left, get_or_at}
+use Rattle.mach_mem.specs.Addresses.{stack_start, stack_end}
 use Rattle.c_type.specs.Names.{pick, at_or}
 use Rattle.c_type.specs.declared.Kind.TheVariants.{Int}
 use Rattle.c_type.specs.Types.{CType, num}
@@ -115,7 +116,7 @@ module _ (l : Layout) (w : Linked) where
         flat i = omega arith
 
     -- states agree as the opening brace begins
-    pub entered_agrees : (text : List ℕ) (ret : ℕ) (ebp esp : ℕ) (mem : Space) (input output : List ℕ) (turns : ℕ) (made : List Made) → Agree l w text s [] ebp esp mem input output turns made → 2143289344 + (4 * length (autos b.func) + 256) ≤ B → B + 8 ≡ 2147483648 → ((x : ℕ) → B - 4 * length (autos b.func) ≤ x → x < B → byte_at mem x ≡ Some 0) → Tells (byte_at mem) B (bytes 4 0) → Tells (byte_at mem) (B + 4) (bytes 4 ret) → Agree l w text inside_of (ghost_of ret ∷ []) B (floor (ghost_of ret ∷ [])) mem input output turns (made ++ record { fun = f; base = B } ∷ [])
+    pub entered_agrees : (text : List ℕ) (ret : ℕ) (ebp esp : ℕ) (mem : Space) (input output : List ℕ) (turns : ℕ) (made : List Made) → Agree l w text s [] ebp esp mem input output turns made → stack_start + (4 * length (autos b.func) + 256) ≤ B → B + 8 ≡ stack_end → ((x : ℕ) → B - 4 * length (autos b.func) ≤ x → x < B → byte_at mem x ≡ Some 0) → Tells (byte_at mem) B (bytes 4 0) → Tells (byte_at mem) (B + 4) (bytes 4 ret) → Agree l w text inside_of (ghost_of ret ∷ []) B (floor (ghost_of ret ∷ [])) mem input output turns (made ++ record { fun = f; base = B } ∷ [])
     entered_agrees text ret ebp esp mem input output turns made ag room top zeros link back = record {
       cells = each (λ o x. Cells l w inside_of.made (byte_at mem) (place w inside_of.made o) x.slots)
           (λ i lt. (own_told i lt, refl, omega arith, tt))
@@ -150,9 +151,9 @@ module _ (l : Layout) (w : Linked) where
         off = each (λ o x. KeepsOff (ghost_of ret ∷ []) (place w inside_of.made o) x.size)
             (λ i lt. subst (λ z. KeepsOff (ghost_of ret ∷ []) z 4) (sym (own_place i lt)) (inr (omega (arith, size_is)), inl (omega arith), tt))
             (λ k x h. (in_stack _ _ (B - frame (ghost_of ret)) 256 (omega (arith, size_is)) (omega (arith, size_is)) (ag.placed.free (Static k) x h), in_stack _ _ B 8 (omega arith) (omega arith) (ag.placed.free (Static k) x h), tt));
-        free = each (λ o x. IsApart (place w inside_of.made o) x.size 2143289344 (floor (ghost_of ret ∷ []) - 2143289344))
-            (λ i lt. subst (λ z. IsApart z 4 2143289344 (floor (ghost_of ret ∷ []) - 2143289344)) (sym (own_place i lt)) (inr (omega (arith, size_is))))
-            (λ k x h. in_stack _ _ 2143289344 (floor (ghost_of ret ∷ []) - 2143289344) (omega arith) (omega (arith, size_is)) (ag.placed.free (Static k) x h));
+        free = each (λ o x. IsApart (place w inside_of.made o) x.size stack_start (floor (ghost_of ret ∷ []) - stack_start))
+            (λ i lt. subst (λ z. IsApart z 4 stack_start (floor (ghost_of ret ∷ []) - stack_start)) (sym (own_place i lt)) (inr (omega (arith, size_is))))
+            (λ k x h. in_stack _ _ stack_start (floor (ghost_of ret ∷ []) - stack_start) (omega arith) (omega (arith, size_is)) (ag.placed.free (Static k) x h));
       };
       layered = (omega (arith, size_is), omega (arith, none_length), omega arith, tt);
       ebp_is = refl;
@@ -183,7 +184,7 @@ module _ (l : Layout) (w : Linked) where
         own_apart : (i j : ℕ) → i < length (autos b.func) → j < length (autos b.func) → (nat_eq (length s.made) (length s.made) && nat_eq i j) ≡ false → IsApart (B - 4 * suc i) 4 (B - 4 * suc j) 4
         own_apart i j li lj ne = ⊎_elim (λ lt. inr (omega arith)) (λ le. inl (omega (arith, differ i j ne))) (cases_lt i j)
 
-        in_stack : (a n c k : ℕ) → 2143289344 ≤ c → c + k ≤ 2147483648 → IsApart a n 2143289344 (floor [] - 2143289344) → IsApart a n c k
+        in_stack : (a n c k : ℕ) → stack_start ≤ c → c + k ≤ stack_end → IsApart a n stack_start (floor [] - stack_start) → IsApart a n c k
         in_stack a n c k lo hi (inl h) = inl (omega arith)
         in_stack a n c k lo hi (inr h) = inr (omega arith)
 

@@ -2,6 +2,7 @@
 use Rattle.std.proofs.Common.{◌≡◌, ℕ, suc, ◌+◌, ◌-◌, ◌*◌, ◌%◌, ◌<◌, ◌≤◌, ◌⊎◌, inl, inr, List, [], ◌∷◌, ◌++◌, Bool, true, false, Option, Some, length, refl, sym, ap, ◌∙◌, subst, arith, length-append}
 use Rattle.std.specs.Prelude.{nat_le, max, slice_get}
 use Rattle.std.proofs.lemmas.Bool.{leb-true}
+use Rattle.mach_mem.specs.Addresses.{stack_start}
 use Rattle.c_type.specs.Names.{pick, at_or, same_name}
 use Rattle.c_type.specs.declared.Kind.TheVariants.{Int}
 use Rattle.c_type.specs.Types.{CType, num}
@@ -74,7 +75,7 @@ next_is l w told s g gs (a ∷ rs) fr =
 
 module _ (p : Prog) (l : Layout) (w : Linked) (most : ℕ) (room : most ≤ p.limit) where
   -- the whole code of putchar
-  put_runs : (g : Ghost) (gr : List Ghost) (f k : ℕ) (s : State) (m : M) (n a b t : ℕ) → Stands p l f k a put_code b → Agrees l w p.text s (g ∷ gr) m → IsAt s.chain f k → m.eip ≡ a → m.regs.eax ≡ n → n < 4294967296 → 2143289344 + 44 ≤ floor (g ∷ gr) → m.since + 10 ≤ t → t ≤ most → Reach p (Halted p l w) m (put_byte (n % 256) s) (Given p l w (g ∷ gr) f k s b t (num Int))
+  put_runs : (g : Ghost) (gr : List Ghost) (f k : ℕ) (s : State) (m : M) (n a b t : ℕ) → Stands p l f k a put_code b → Agrees l w p.text s (g ∷ gr) m → IsAt s.chain f k → m.eip ≡ a → m.regs.eax ≡ n → n < 4294967296 → stack_start + 44 ≤ floor (g ∷ gr) → m.since + 10 ≤ t → t ≤ most → Reach p (Halted p l w) m (put_byte (n % 256) s) (Given p l w (g ∷ gr) f k s b t (num Int))
   put_runs g gr f k s m n a b t st ag here at ax lt low soon le =
       let c1 = st.0 in
       let c2 = st.2.0 in

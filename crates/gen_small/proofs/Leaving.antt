@@ -1,5 +1,6 @@
 -- A function is left, and the process ends with its value.
 use Rattle.std.proofs.Common.{◌≡◌, ℕ, ◌+◌, ◌%◌, ◌<◌, ◌≤◌, List, [], ◌∷◌, Option, length, refl, sym, ap, ◌∙◌, subst, arith}
+use Rattle.mach_mem.specs.Addresses.{stack_end}
 use Rattle.mach_mem.specs.Space.{byte_at, with_number}
 use Rattle.isa386.specs.declared.Dest.TheVariants.{Register}
 use Rattle.isa386.specs.declared.StackOp.TheVariants.{Push, PushImm}
@@ -27,7 +28,7 @@ module _ (p : Prog) (l : Layout) (w : Linked) (most : ℕ) (room : most ≤ p.li
   -- leave and ret
   pub record Back (text : List ℕ) (m : M) (c : ℕ) (m' : M) : Type 0 where
     pub comes : Comes p m m'
-    pub esp_is : m'.regs.esp ≡ 2147483648
+    pub esp_is : m'.regs.esp ≡ stack_end
     pub eax_is : m'.regs.eax ≡ m.regs.eax
     pub eip_is : m'.eip ≡ c
     pub mem_is : m'.mem ≡ m.mem
@@ -52,7 +53,7 @@ module _ (p : Prog) (l : Layout) (w : Linked) (most : ℕ) (room : most ≤ p.li
       (m2, record { comes = move_on p m m1 m2 e1 (moved p m1 m2 e2); esp_is = ap (λ z. add32 (add32 z 4) 4) eb; eax_is = refl; eip_is = refl; mem_is = refl; input_is = refl; output_is = refl; turns_is = refl; since_is = omega arith })
 
   -- the exit with the value in eax
-  pub exit_runs : (f k : ℕ) (s : State) (m : M) (a b n : ℕ) → Stands p l f k a (Op (Stack (Push 0)) ∷ Op (Stack (PushImm 0)) ∷ Op (MoveImm (Register 0) 1) ∷ Op Lcall ∷ []) b → m.eip ≡ a → m.regs.esp ≡ 2147483648 → m.regs.eax ≡ n → n < 4294967296 → length m.mem.stack ≡ 4194304 → m.mem.text ≡ p.text → m.output ≡ s.output → m.turns ≡ s.turns → m.since + 4 ≤ most → (m' : M) × Comes p m m' × AtEnd p l w (n % 256) s m'
+  pub exit_runs : (f k : ℕ) (s : State) (m : M) (a b n : ℕ) → Stands p l f k a (Op (Stack (Push 0)) ∷ Op (Stack (PushImm 0)) ∷ Op (MoveImm (Register 0) 1) ∷ Op Lcall ∷ []) b → m.eip ≡ a → m.regs.esp ≡ stack_end → m.regs.eax ≡ n → n < 4294967296 → length m.mem.stack ≡ 4194304 → m.mem.text ≡ p.text → m.output ≡ s.output → m.turns ≡ s.turns → m.since + 4 ≤ most → (m' : M) × Comes p m m' × AtEnd p l w (n % 256) s m'
   exit_runs f k s m a b n st at sp ax small whole text out turns soon =
       let c1 = st.0 in
       let c2 = st.2.0 in

@@ -2,6 +2,7 @@
 use Rattle.std.proofs.Common.{◌≡◌, ℕ, ◌+◌, ◌%◌, ◌<◌, ◌≤◌, List, [], ◌∷◌, ◌++◌, map, Bool, true, false, Option, Some, None, length, refl, sym, ap, ◌∙◌, subst, arith}
 use Rattle.std.specs.Prelude.{nat_le}
 use Rattle.std.proofs.lemmas.Bool.{leb-true}
+use Rattle.mach_mem.specs.Addresses.{stack_start, stack_end}
 use Rattle.c_type.specs.Types.{CType}
 use Rattle.mach_mem.specs.Space.{byte_at}
 use Rattle.isa386.specs.declared.Dest.TheVariants.{Register}
@@ -130,7 +131,7 @@ module _ (p : Prog) (l : Layout) (w : Linked) (most : ℕ) (room : most ≤ p.li
   Never x s m = ⊥
 
   -- main is entered
-  enter_runs : (f0 k0 a0 z j a1 e : ℕ) (s : State) (m : M) → Stands p l f0 k0 a0 (start_code f) z → Stands p l f j a1 (func_code site) e → Agrees l w p.text s [] m → m.eip ≡ a0 → m.since + 9 ≤ most → 2143289344 + frame_of (context w b) b.func ≤ 2147483640 → Reach p (Halted p l w) m (body G (rest fuel G) (context w b) b.func (inside_of l w f b 2147483640 s is.ints is.body_is is.params_none)) Ends
+  enter_runs : (f0 k0 a0 z j a1 e : ℕ) (s : State) (m : M) → Stands p l f0 k0 a0 (start_code f) z → Stands p l f j a1 (func_code site) e → Agrees l w p.text s [] m → m.eip ≡ a0 → m.since + 9 ≤ most → stack_start + frame_of (context w b) b.func ≤ 2147483640 → Reach p (Halted p l w) m (body G (rest fuel G) (context w b) b.func (inside_of l w f b 2147483640 s is.ints is.body_is is.params_none)) Ends
   enter_runs f0 k0 a0 z j a1 e s m st sf ag at soon fits =
       let c0 = st.0 in
       let ret_small : c0 < 4294967296 = omega (arith, st.2.stored.next) in
@@ -146,7 +147,7 @@ module _ (p : Prog) (l : Layout) (w : Linked) (most : ℕ) (room : most ≤ p.li
       let q = zr.1 in
       let words = rounded_ints (context w b) (autos b.func) is.ints in
       let made : State = inside_of l w f b 2147483640 s is.ints is.body_is is.params_none in
-      let ea = entered_agrees l w f b 2147483640 s is.ints is.body_is is.params_none p.text c0 0 2147483648 zr.0.mem zr.0.input zr.0.output zr.0.turns zr.0.made q.agree (omega arith) refl (λ x lo hi. q.zero x (omega arith) hi)
+      let ea = entered_agrees l w f b 2147483640 s is.ints is.body_is is.params_none p.text c0 0 stack_end zr.0.mem zr.0.input zr.0.output zr.0.turns zr.0.made q.agree (omega arith) refl (λ x lo hi. q.zero x (omega arith) hi)
       (tells_keep (bytes 4 0) (byte_at fr.0.mem) (byte_at zr.0.mem) 2147483640 (λ x lo hi. q.above x lo) h.link)
       (tells_keep (bytes 4 c0) (byte_at fr.0.mem) (byte_at zr.0.mem) 2147483644 (λ x lo hi. q.above x (omega arith)) h.back) in
       let P : ℕ → ℕ → Type 0 = λ u z. Agree l w p.text made (main_frame (length s.made) c0 ∷ []) u z zr.0.mem zr.0.input zr.0.output zr.0.turns (zr.0.made ++ record { fun = f; base = u } ∷ []) in

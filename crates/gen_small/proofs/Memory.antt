@@ -2,6 +2,7 @@
 use Rattle.std.proofs.Common.{◌≡◌, ℕ, zero, suc, ◌+◌, ◌-◌, ◌*◌, ◌/◌, ◌%◌, ◌<◌, ◌≤◌, ◌≢◌, ◌⊎◌, inl, inr, List, [], ◌∷◌, Bool, true, false, Option, Some, None, length, refl, sym, ap, ◌∙◌, subst, arith}
 use Rattle.std.specs.Prelude.{nat_lt, nat_le, if◌then◌else◌, slice_get, slice_set, ◌&&◌}
 use Rattle.std.proofs.lemmas.Bool.{ltb-true, ltb-false, lt-ltb}
+use Rattle.mach_mem.specs.Addresses.{text_start, statics_start, stack_start, stack_end, stack_room}
 use Rattle.mach_mem.specs.Space.{Space, byte_at, is_writable, with_byte, is_writable4, with_number, number_at, number_of}
 use Rattle.gen_small.specs.Spelled.{bytes, Tells}
 use Rattle.gen_small.specs.Agree.{CanWrite}
@@ -31,7 +32,7 @@ data Region : Type 0 where
   InStack : (i : ℕ) → Region
 
 region : ℕ → Region
-region a = if nat_le 0x80000000 a then Nowhere else if nat_le 0x7FC00000 a then InStack (a - 0x7FC00000) else if nat_le 0x400000 a then InStatics (a - 0x400000) else if nat_le 0x10000 a then InText (a - 0x10000) else Nowhere
+region a = if nat_le stack_end a then Nowhere else if nat_le stack_start a then InStack (a - stack_start) else if nat_le statics_start a then InStatics (a - statics_start) else if nat_le text_start a then InText (a - text_start) else Nowhere
 
 abbrev tell_in : Space → Region → Option ℕ
 tell_in m Nowhere = None
@@ -53,9 +54,9 @@ put_in m (InStack i) v = record { text = m.text; statics = m.statics; stack = sl
 
 tell_region : (m : Space) (a : ℕ) → byte_at m a ≡ tell_in m (region a)
 unfolding region
-tell_region m a = go (nat_le 0x80000000 a) (nat_le 0x7FC00000 a) (nat_le 0x400000 a) (nat_le 0x10000 a)
+tell_region m a = go (nat_le stack_end a) (nat_le stack_start a) (nat_le statics_start a) (nat_le text_start a)
   where
-    go : (b1 b2 b3 b4 : Bool) → (if b1 then None else if b2 then slice_get m.stack (a - 0x7FC00000) else if b3 then slice_get m.statics (a - 0x400000) else if b4 then slice_get m.text (a - 0x10000) else None) ≡ tell_in m (if b1 then Nowhere else if b2 then InStack (a - 0x7FC00000) else if b3 then InStatics (a - 0x400000) else if b4 then InText (a - 0x10000) else Nowhere)
+    go : (b1 b2 b3 b4 : Bool) → (if b1 then None else if b2 then slice_get m.stack (a - stack_start) else if b3 then slice_get m.statics (a - statics_start) else if b4 then slice_get m.text (a - text_start) else None) ≡ tell_in m (if b1 then Nowhere else if b2 then InStack (a - stack_start) else if b3 then InStatics (a - statics_start) else if b4 then InText (a - text_start) else Nowhere)
     go true b2 b3 b4 = refl
     go false true b3 b4 = refl
     go false false true b4 = refl
@@ -64,9 +65,9 @@ tell_region m a = go (nat_le 0x80000000 a) (nat_le 0x7FC00000 a) (nat_le 0x40000
 
 can_region : (m : Space) (a : ℕ) → is_writable m a ≡ can_put m (region a)
 unfolding region
-can_region m a = go (nat_le 0x80000000 a) (nat_le 0x7FC00000 a) (nat_le 0x400000 a) (nat_le 0x10000 a)
+can_region m a = go (nat_le stack_end a) (nat_le stack_start a) (nat_le statics_start a) (nat_le text_start a)
   where
-    go : (b1 b2 b3 b4 : Bool) → (if b1 then false else if b2 then nat_lt (a - 0x7FC00000) (length m.stack) else if b3 then nat_lt (a - 0x400000) (length m.statics) else false) ≡ can_put m (if b1 then Nowhere else if b2 then InStack (a - 0x7FC00000) else if b3 then InStatics (a - 0x400000) else if b4 then InText (a - 0x10000) else Nowhere)
+    go : (b1 b2 b3 b4 : Bool) → (if b1 then false else if b2 then nat_lt (a - stack_start) (length m.stack) else if b3 then nat_lt (a - statics_start) (length m.statics) else false) ≡ can_put m (if b1 then Nowhere else if b2 then InStack (a - stack_start) else if b3 then InStatics (a - statics_start) else if b4 then InText (a - text_start) else Nowhere)
     go true b2 b3 b4 = refl
     go false true b3 b4 = refl
     go false false true b4 = refl
@@ -75,9 +76,9 @@ can_region m a = go (nat_le 0x80000000 a) (nat_le 0x7FC00000 a) (nat_le 0x400000
 
 put_region : (m : Space) (a v : ℕ) → with_byte m a v ≡ put_in m (region a) v
 unfolding region
-put_region m a v = go (nat_le 0x80000000 a) (nat_le 0x7FC00000 a) (nat_le 0x400000 a) (nat_le 0x10000 a)
+put_region m a v = go (nat_le stack_end a) (nat_le stack_start a) (nat_le statics_start a) (nat_le text_start a)
   where
-    go : (b1 b2 b3 b4 : Bool) → (if b1 then m else if b2 then record { text = m.text; statics = m.statics; stack = slice_set m.stack (a - 0x7FC00000) v } else if b3 then record { text = m.text; statics = slice_set m.statics (a - 0x400000) v; stack = m.stack } else m) ≡ put_in m (if b1 then Nowhere else if b2 then InStack (a - 0x7FC00000) else if b3 then InStatics (a - 0x400000) else if b4 then InText (a - 0x10000) else Nowhere) v
+    go : (b1 b2 b3 b4 : Bool) → (if b1 then m else if b2 then record { text = m.text; statics = m.statics; stack = slice_set m.stack (a - stack_start) v } else if b3 then record { text = m.text; statics = slice_set m.statics (a - statics_start) v; stack = m.stack } else m) ≡ put_in m (if b1 then Nowhere else if b2 then InStack (a - stack_start) else if b3 then InStatics (a - statics_start) else if b4 then InText (a - text_start) else Nowhere) v
     go true b2 b3 b4 = refl
     go false true b3 b4 = refl
     go false false true b4 = refl
@@ -86,30 +87,30 @@ put_region m a v = go (nat_le 0x80000000 a) (nat_le 0x7FC00000 a) (nat_le 0x4000
 
 -- a region knows its address
 abbrev At : Region → ℕ → Type 0
-At Nowhere a = (a < 0x10000) ⊎ (0x80000000 ≤ a)
-At (InText i) a = (a ≡ 0x10000 + i) × (a < 0x400000)
-At (InStatics i) a = (a ≡ 0x400000 + i) × (a < 0x7FC00000)
-At (InStack i) a = (a ≡ 0x7FC00000 + i) × (a < 0x80000000)
+At Nowhere a = (a < text_start) ⊎ (stack_end ≤ a)
+At (InText i) a = (a ≡ text_start + i) × (a < statics_start)
+At (InStatics i) a = (a ≡ statics_start + i) × (a < stack_start)
+At (InStack i) a = (a ≡ stack_start + i) × (a < stack_end)
 
 region_at : (a : ℕ) → At (region a) a
 unfolding region
-region_at a = one (nat_le 0x80000000 a) refl
+region_at a = one (nat_le stack_end a) refl
   where
-    four : (b : Bool) → nat_le 0x10000 a ≡ b → a < 0x400000 → At (if b then InText (a - 0x10000) else Nowhere) a
+    four : (b : Bool) → nat_le text_start a ≡ b → a < statics_start → At (if b then InText (a - text_start) else Nowhere) a
     four true e h = let l = ltb-true _ _ e in (omega arith, h)
     four false e h = let l = ltb-false _ _ e in inl (omega arith)
 
-    three : (b : Bool) → nat_le 0x400000 a ≡ b → a < 0x7FC00000 → At (if b then InStatics (a - 0x400000) else if nat_le 0x10000 a then InText (a - 0x10000) else Nowhere) a
+    three : (b : Bool) → nat_le statics_start a ≡ b → a < stack_start → At (if b then InStatics (a - statics_start) else if nat_le text_start a then InText (a - text_start) else Nowhere) a
     three true e h = let l = ltb-true _ _ e in (omega arith, h)
-    three false e h = let l = ltb-false _ _ e in four (nat_le 0x10000 a) refl (omega arith)
+    three false e h = let l = ltb-false _ _ e in four (nat_le text_start a) refl (omega arith)
 
-    two : (b : Bool) → nat_le 0x7FC00000 a ≡ b → a < 0x80000000 → At (if b then InStack (a - 0x7FC00000) else if nat_le 0x400000 a then InStatics (a - 0x400000) else if nat_le 0x10000 a then InText (a - 0x10000) else Nowhere) a
+    two : (b : Bool) → nat_le stack_start a ≡ b → a < stack_end → At (if b then InStack (a - stack_start) else if nat_le statics_start a then InStatics (a - statics_start) else if nat_le text_start a then InText (a - text_start) else Nowhere) a
     two true e h = let l = ltb-true _ _ e in (omega arith, h)
-    two false e h = let l = ltb-false _ _ e in three (nat_le 0x400000 a) refl (omega arith)
+    two false e h = let l = ltb-false _ _ e in three (nat_le statics_start a) refl (omega arith)
 
-    one : (b : Bool) → nat_le 0x80000000 a ≡ b → At (if b then Nowhere else if nat_le 0x7FC00000 a then InStack (a - 0x7FC00000) else if nat_le 0x400000 a then InStatics (a - 0x400000) else if nat_le 0x10000 a then InText (a - 0x10000) else Nowhere) a
+    one : (b : Bool) → nat_le stack_end a ≡ b → At (if b then Nowhere else if nat_le stack_start a then InStack (a - stack_start) else if nat_le statics_start a then InStatics (a - statics_start) else if nat_le text_start a then InText (a - text_start) else Nowhere) a
     one true e = let l = ltb-true _ _ e in inr (omega arith)
-    one false e = let l = ltb-false _ _ e in two (nat_le 0x7FC00000 a) refl (omega arith)
+    one false e = let l = ltb-false _ _ e in two (nat_le stack_start a) refl (omega arith)
 
 put_same : (m : Space) (r : Region) (v : ℕ) → can_put m r ≡ true → tell_in (put_in m r v) r ≡ Some v
 put_same m Nowhere v e = absurd (cc)
@@ -201,9 +202,9 @@ puts_wrote (x ∷ xs) m a h =
 
 -- the stack is whole
 abbrev pub IsWhole : Space → Type 0
-IsWhole m = length m.stack ≡ 4194304
+IsWhole m = length m.stack ≡ stack_room
 
-writable_stack : (m : Space) (a : ℕ) → IsWhole m → 2143289344 ≤ a → a < 2147483648 → is_writable m a ≡ true
+writable_stack : (m : Space) (a : ℕ) → IsWhole m → stack_start ≤ a → a < stack_end → is_writable m a ≡ true
 writable_stack m a w lo hi = can_region m a ∙ go (region a) (region_at a)
   where
     go : (r : Region) → At r a → can_put m r ≡ true
@@ -212,7 +213,7 @@ writable_stack m a w lo hi = can_region m a ∙ go (region a) (region_at a)
     go (InStatics i) h = absurd (omega (arith, h.1))
     go (InStack i) h = lt-ltb _ _ (omega (arith, h.0, w))
 
-pub can_write_stack : (n : ℕ) (m : Space) (a : ℕ) → IsWhole m → 2143289344 ≤ a → a + n ≤ 2147483648 → CanWrite m a n
+pub can_write_stack : (n : ℕ) (m : Space) (a : ℕ) → IsWhole m → stack_start ≤ a → a + n ≤ stack_end → CanWrite m a n
 can_write_stack zero m a w lo hi = tt
 can_write_stack (suc n) m a w lo hi = (writable_stack m a w lo (omega arith), can_write_stack n m (suc a) w (omega arith) (omega arith))
 

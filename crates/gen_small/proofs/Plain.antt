@@ -6,7 +6,7 @@ use Rattle.c_tree.specs.State.{State, Made, Out, Gave, Halt, bind, acts_of, no_c
 use Rattle.c_tree.specs.Context.{Linked}
 use Rattle.c_tree.specs.Bodies.{BodyAt, body_named}
 use Rattle.c_tree.specs.Run.{main_name, first_state, call_main, run_linked}
-use Rattle.gen_small.specs.Runs.{advanced}
+use Rattle.mach_exec.specs.Process.{advanced}
 use Rattle.gen_small.specs.Ghost.{M, process, Prog, arrive, Moves, Path}
 use Rattle.gen_small.specs.Items.{Layout, Stands}
 use Rattle.gen_small.specs.Reaches.{Comes, Reach, AtTurn, AtEnd, Halted, run_of}
@@ -14,7 +14,8 @@ use Rattle.gen_small.specs.Code.{start_code, func_code}
 use Rattle.gen_small.specs.Mains.{IsMain}
 use Rattle.gen_small.specs.Flows.{Respects}
 use Rattle.gen_small.specs.Agree.{Agree, Agrees}
-use Rattle.gen_small.specs.Laws.{Exited, ExitsAlike, Reached, StopsAlike}
+use Rattle.mach_exec.specs.Ends.{Exited, Reached}
+use Rattle.gen_small.specs.Laws.{ExitsAlike, StopsAlike}
 use Rattle.gen_small.proofs.Reach.{without_ghosts, unpoked}
 use Rattle.gen_small.proofs.MainRuns.{main_runs}
 

@@ -16,7 +16,7 @@ use Rattle.mach_exec.specs.Execute.{executed}
 use Rattle.mach_exec.specs.Step.{decided, stepped}
 use Rattle.mach_exec.specs.Strings.{each_byte, bytes_from}
 use Rattle.mach_exec.specs.System.{Returned, called, transferred, appended, succeeded, failed}
-use Rattle.gen_small.specs.Runs.{advanced, after, performed}
+use Rattle.mach_exec.specs.Process.{advanced, after, performed}
 use Rattle.gen_small.specs.Ghost.{Regs, Flags, M, cpu_of, process, Prog, arrive, Moves}
 use Rattle.gen_small.specs.Items.{Layout, code_from, Stays}
 

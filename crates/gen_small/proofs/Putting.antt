@@ -1,6 +1,7 @@
 -- The code of putchar writes one byte.
 use Rattle.std.proofs.Common.{◌≡◌, ℕ, ◌+◌, ◌-◌, ◌%◌, ◌<◌, ◌≤◌, List, [], ◌∷◌, ◌++◌, true, false, Some, refl, sym, ap, ◌∙◌, subst, arith}
 use Rattle.std.specs.Int.{w32, cast_signed}
+use Rattle.mach_mem.specs.Addresses.{stack_start, stack_end}
 use Rattle.c_type.specs.declared.Kind.TheVariants.{Int}
 use Rattle.c_type.specs.Types.{num}
 use Rattle.mach_mem.specs.Space.{Space, byte_at, number_at, with_number, is_writable4}
@@ -44,8 +45,8 @@ module _ (p : Prog) (l : Layout) (w : Linked) (most : ℕ) (room : most ≤ p.li
     pub agree : Agree l w p.text s gs m.regs.ebp e m.mem m.input m.output m.turns m.made
     pub floor_is : e ≡ floor gs
     pub esp_is : m.regs.esp + q ≡ e
-    pub low : 2143289344 + 44 ≤ e
-    pub high : e ≤ 2147483648
+    pub low : stack_start + 44 ≤ e
+    pub high : e ≤ stack_end
 
   -- a number is pushed at the address `at`
   record Pushed (s : State) (gs : List Ghost) (e q : ℕ) (m : M) (c at v : ℕ) : Type 0 where

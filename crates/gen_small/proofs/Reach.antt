@@ -10,7 +10,7 @@ use Rattle.mach_exec.specs.Execute.{executed}
 use Rattle.mach_exec.specs.Step.{decided, stepped}
 use Rattle.c_tree.specs.Values.{Stop}
 use Rattle.c_tree.specs.State.{State, Out, Gave, Halt, bind}
-use Rattle.gen_small.specs.Runs.{Goes, advanced, after, and_on, ran}
+use Rattle.mach_exec.specs.Process.{Goes, advanced, after, and_on, ran}
 use Rattle.gen_small.specs.Ghost.{Regs, Flags, M, cpu_of, process, Prog, arrive, arrived, made_at, Moves, Path}
 pub use Rattle.gen_small.specs.Reaches.{Comes, Reach}
 use Rattle.gen_small.specs.Items.{Item, Start, Open, Op, Label, Goto, If, CallTo, Layout, code_from, Stays, Begins, Stands, last_start}

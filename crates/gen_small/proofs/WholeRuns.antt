@@ -1,6 +1,7 @@
 -- A whole program of the small form runs as the source machine does.
 use Rattle.std.proofs.Common.{◌≡◌, ℕ, ◌+◌, ◌*◌, ◌≤◌, List, [], ◌∷◌, Bool, true, false, Some, refl, sym, ap, ◌∙◌, arith, append-nil}
 use Rattle.std.specs.Prelude.{if◌then◌else◌, slice_get}
+use Rattle.mach_mem.specs.Addresses.{text_start, stack_end}
 use Rattle.mach_mem.specs.Space.{Space, IsInitial}
 use Rattle.c_tree.specs.Bodies.{BodyAt}
 use Rattle.c_tree.specs.Context.{Linked}
@@ -60,9 +61,9 @@ module _ (w : Linked) (f limit : ℕ) (b : BodyAt) (is : IsSmallProgram w f b) (
   abbrev first : M
   first =
       record {
-        regs = record { eax = 0; ecx = 0; edx = 0; ebx = 0; esp = 2147483648; ebp = 0; esi = 0; edi = 0 };
+        regs = record { eax = 0; ecx = 0; edx = 0; ebx = 0; esp = stack_end; ebp = 0; esi = 0; edi = 0 };
         flags = record { cf = false; zf = false; sf = false; of = false };
-        eip = 65536;
+        eip = text_start;
         mem = mem;
         input = input;
         output = [];
@@ -74,21 +75,21 @@ module _ (w : Linked) (f limit : ℕ) (b : BodyAt) (is : IsSmallProgram w f b) (
   small_size : size code ≤ 3145792
   small_size = let h = whole_size w f b is.main in let short = is.main.short in omega arith
 
-  stands_whole : Stands p l f 0 65536 code (end_of 65536 code)
+  stands_whole : Stands p l f 0 text_start code (end_of text_start code)
   stands_whole =
-      emitted_stands p l f 0 code [] 65536 (omega arith) (let s = small_size in omega (arith, end_is 65536 code)) (sym (append-nil (laid code)))
-      (marked p l f code 0 65536 (whole_encoded w f b is.main) (whole_once w f b is.main)
+      emitted_stands p l f 0 code [] text_start (omega arith) (let s = small_size in omega (arith, end_is text_start code)) (sym (append-nil (laid code)))
+      (marked p l f code 0 text_start (whole_encoded w f b is.main) (whole_once w f b is.main)
       (record {
         labels = λ n there. refl;
         starts = λ j there. refl;
         begun = λ at low. refl;
         opened = λ at low. refl;
         owned = λ at low. refl;
-        small = λ n. (let s = small_size in let h = address_within (is_label n) 65536 code in omega arith);
+        small = λ n. (let s = small_size in let h = address_within (is_label n) text_start code in omega arith);
       }))
 
-  split : (c : ℕ) × Stands p l f 0 65536 (start_code f) c × Stands p l f 0 c (func_code record { whole = w; fun = f; body = b }) (end_of 65536 code)
-  split = stands_split p l f 0 (start_code f) (func_code record { whole = w; fun = f; body = b }) 65536 (end_of 65536 code) stands_whole
+  split : (c : ℕ) × Stands p l f 0 text_start (start_code f) c × Stands p l f 0 c (func_code record { whole = w; fun = f; body = b }) (end_of text_start code)
+  split = stands_split p l f 0 (start_code f) (func_code record { whole = w; fun = f; body = b }) text_start (end_of text_start code) stands_whole
 
   no_thing : (o : Object) (x : Thing) → thing (blank w input) o ≡ Some x → ⊥
   no_thing (Static k) x e = nothing_static w input k x is.no_statics e
@@ -125,9 +126,9 @@ module _ (w : Linked) (f limit : ℕ) (b : BodyAt) (is : IsSmallProgram w f b) (
 pub whole_ends : WholeEnds
 whole_ends w f limit b is enough mem init input stop fuel status s run_is =
     let c = split w f limit b is enough mem init input in
-    ends_alike (p w f limit b is enough mem init input) (l w f limit b is enough mem init input) w limit (omega arith) (omega arith) (λ t made m. refl) f b (main_is w f limit b is enough mem init input) is.named f 0 65536 c.0 0 c.0 (end_of 65536 (whole_code w f b)) stop fuel input (Num 0) (blank w input) (first w f limit b is enough mem init input) c.1 c.2 (begins_at_once w input is.no_statics) (agrees_first w f limit b is enough mem init input) refl refl status s run_is
+    ends_alike (p w f limit b is enough mem init input) (l w f limit b is enough mem init input) w limit (omega arith) (omega arith) (λ t made m. refl) f b (main_is w f limit b is enough mem init input) is.named f 0 text_start c.0 0 c.0 (end_of text_start (whole_code w f b)) stop fuel input (Num 0) (blank w input) (first w f limit b is enough mem init input) c.1 c.2 (begins_at_once w input is.no_statics) (agrees_first w f limit b is enough mem init input) refl refl status s run_is
 
 pub whole_stops : WholeStops
 whole_stops w f limit b is enough mem init input stop fuel s run_is =
     let c = split w f limit b is enough mem init input in
-    stops_alike (p w f limit b is enough mem init input) (l w f limit b is enough mem init input) w limit (omega arith) (omega arith) (λ t made m. refl) f b (main_is w f limit b is enough mem init input) is.named f 0 65536 c.0 0 c.0 (end_of 65536 (whole_code w f b)) stop fuel input (Num 0) (blank w input) (first w f limit b is enough mem init input) c.1 c.2 (begins_at_once w input is.no_statics) (agrees_first w f limit b is enough mem init input) refl refl refl s run_is
+    stops_alike (p w f limit b is enough mem init input) (l w f limit b is enough mem init input) w limit (omega arith) (omega arith) (λ t made m. refl) f b (main_is w f limit b is enough mem init input) is.named f 0 text_start c.0 0 c.0 (end_of text_start (whole_code w f b)) stop fuel input (Num 0) (blank w input) (first w f limit b is enough mem init input) c.1 c.2 (begins_at_once w input is.no_statics) (agrees_first w f limit b is enough mem init input) refl refl refl s run_is

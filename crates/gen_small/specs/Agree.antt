@@ -1,5 +1,6 @@
 -- *Agree*: how a state of the source machine stands in the memory and the registers of the 386.
 use Rattle.std.specs.Prelude.{ℕ, zero, suc, ◌≡◌, ◌+◌, ◌-◌, ◌*◌, ◌<◌, ◌≤◌, ◌⊎◌, List, [], ◌∷◌, length, Option, Some, true, false, slice_get, slice_index}
+use Rattle.mach_mem.specs.Addresses.{stack_start, stack_end, stack_room}
 use Rattle.c_type.specs.Names.{at_or}
 use Rattle.c_type.specs.Sizes.{size}
 use Rattle.mach_mem.specs.Space.{Space, byte_at, is_writable}
@@ -70,14 +71,14 @@ base_of [] = 0
 base_of (g ∷ gs) = g.base
 
 abbrev pub floor : List Ghost → ℕ
-floor [] = 2147483648
+floor [] = stack_end
 floor (g ∷ gs) = g.base - frame g
 
 -- the frames lie in the stack, one below the other, each above its lowest address and below its arguments
 abbrev pub Layered : List Ghost → Type 0
 Layered [] = Unit {0}
 Layered (g ∷ gs) =
-    (2143289344 + frame g ≤ g.base) × (g.base + 8 + 4 * length g.site.body.func.params ≤ floor gs) × (floor gs ≤ 2147483648) × Layered gs
+    (stack_start + frame g ≤ g.base) × (g.base + 8 + 4 * length g.site.body.func.params ≤ floor gs) × (floor gs ≤ stack_end) × Layered gs
 
 -- the byte before a return address belongs to the caller's current start
 abbrev pub Returns : Layout → ℕ → List Act → Type 0
@@ -117,7 +118,7 @@ pub record Placed (w : Linked) (s : State) (gs : List Ghost) (m : Space) : Type 
   pub writable : (o : Object) (x : Thing) → thing s o ≡ Some x → CanWrite m (place w s.made o) x.size
   pub apart : (o q : Object) (x y : Thing) → thing s o ≡ Some x → thing s q ≡ Some y → same_object o q ≡ false → IsApart (place w s.made o) x.size (place w s.made q) y.size
   pub off : (o : Object) (x : Thing) → thing s o ≡ Some x → KeepsOff gs (place w s.made o) x.size
-  pub free : (o : Object) (x : Thing) → thing s o ≡ Some x → IsApart (place w s.made o) x.size 2143289344 (floor gs - 2143289344)
+  pub free : (o : Object) (x : Thing) → thing s o ≡ Some x → IsApart (place w s.made o) x.size stack_start (floor gs - stack_start)
 
 -- The state and the machine agree.
 pub record Agree (l : Layout) (w : Linked) (text : List ℕ) (s : State) (gs : List Ghost) (ebp esp : ℕ) (mem : Space) (input output : List ℕ) (turns : ℕ) (made : List Made) : Type 0 where
@@ -127,7 +128,7 @@ pub record Agree (l : Layout) (w : Linked) (text : List ℕ) (s : State) (gs : L
   pub layered : Layered gs
   pub ebp_is : ebp ≡ base_of gs
   pub esp_is : esp ≡ floor gs
-  pub stack_is : length mem.stack ≡ 4194304
+  pub stack_is : length mem.stack ≡ stack_room
   pub text_is : mem.text ≡ text
   pub input_is : input ≡ s.input
   pub output_is : output ≡ s.output

@@ -22,6 +22,7 @@ use Rattle.c_tree.specs.Bodies.{BodyAt, autos}
 use Rattle.c_tree.specs.Values.{Body}
 use Rattle.c_tree.specs.Context.{Linked, Context, context, putchar_name}
 use Rattle.c_tree.specs.Calls.{rounded, frame_of}
+use Rattle.mach_exec.specs.Registers.{eax, ecx, esp, ebp, edi}
 use Rattle.gen_small.specs.Items.{Item, Start, Open, Op, Label, Goto, If, CallTo, Entry, Close, Top, End}
 
 -- where code stands: its program, the number of its function, and that function
@@ -39,7 +40,7 @@ locals_size t = rounded (inside t) (autos t.body.func)
 
 -- memory so many bytes beyond ebp, modulo 2^32, and so many bytes below it
 abbrev pub beyond : ℕ → Opnd
-beyond q = Mem (Some 5) None (cast_signed w32 q) D32
+beyond q = Mem (Some ebp) None (cast_signed w32 q) D32
 
 abbrev pub below : ℕ → Opnd
 below q = beyond (4294967296 - q)
@@ -60,29 +61,29 @@ named t _ = []
 -- %eax is loaded from there, and stored there
 abbrev pub load_from : List Opnd → List Item
 load_from [] = []
-load_from (o ∷ os) = Op (Move ToRegister 0 o) ∷ []
+load_from (o ∷ os) = Op (Move ToRegister eax o) ∷ []
 
 abbrev pub store_to : List Opnd → List Item
 store_to [] = []
-store_to (o ∷ os) = Op (Move ToOperand 0 o) ∷ []
+store_to (o ∷ os) = Op (Move ToOperand eax o) ∷ []
 
 -- the left operand is in %eax, the right one in %ecx
 abbrev pub operator : TBinary → List Item
-operator Add = Op (ArithTo arith.Add 1 (Reg 0)) ∷ []
-operator Sub = Op (ArithTo arith.Sub 1 (Reg 0)) ∷ []
+operator Add = Op (ArithTo arith.Add ecx (Reg eax)) ∷ []
+operator Sub = Op (ArithTo arith.Sub ecx (Reg eax)) ∷ []
 operator _ = []
 
 -- a left operand is kept in temporary d, and comes back behind the right one to be joined with it
 abbrev pub kept : Site → ℕ → Item
-kept t d = Op (Move ToOperand 0 (below (temp_depth t d)))
+kept t d = Op (Move ToOperand eax (below (temp_depth t d)))
 
 abbrev pub joined : Site → ℕ → TBinary → List Item
-joined t d op = Op (Move ToOperand 0 (Reg 1)) ∷ Op (Move ToRegister 0 (below (temp_depth t d))) ∷ operator op
+joined t d op = Op (Move ToOperand eax (Reg ecx)) ∷ Op (Move ToRegister eax (below (temp_depth t d))) ∷ operator op
 
 -- write(1, the lowest byte of %eax, 1) over the stack; %eax becomes that byte
 abbrev pub put_code : List Item
 put_code =
-    Op (Stack (Push 0)) ∷ Op (Move ToOperand 4 (Reg 0)) ∷ Op (Stack (PushImm 1)) ∷ Op (Stack (Push 0)) ∷ Op (Stack (PushImm 1)) ∷ Op (Stack (PushImm 0)) ∷ Op (MoveImm (Register 0) 4) ∷ Op Lcall ∷ Op (Widen ZeroByte 0 (Mem (Some 4) (Some (4, 0)) (cast_signed w32 16) D32)) ∷ Op (ArithImm arith.Add (Reg 4) 20) ∷ []
+    Op (Stack (Push eax)) ∷ Op (Move ToOperand esp (Reg eax)) ∷ Op (Stack (PushImm 1)) ∷ Op (Stack (Push eax)) ∷ Op (Stack (PushImm 1)) ∷ Op (Stack (PushImm 0)) ∷ Op (MoveImm (Register eax) 4) ∷ Op Lcall ∷ Op (Widen ZeroByte eax (Mem (Some esp) (Some (esp, 0)) (cast_signed w32 16) D32)) ∷ Op (ArithImm arith.Add (Reg esp) 20) ∷ []
 
 -- where an assignment puts its value
 abbrev pub target_of : Site → TExpr → List Opnd
@@ -98,7 +99,7 @@ is_putchar _ = false
 -- temporary d while the right one is evaluated.
 abbrev pub expr_code : Site → TExpr → ℕ → List Item
 expr_code t (name ty r) d = load_from (named t r)
-expr_code t (int ty n) d = Op (MoveImm (Register 0) (n % 4294967296)) ∷ []
+expr_code t (int ty n) d = Op (MoveImm (Register eax) (n % 4294967296)) ∷ []
 expr_code t (convert ty e) d = expr_code t e d
 expr_code t (binary ty op a b) d = expr_code t a d ++ (kept t d ∷ (expr_code t b (suc d) ++ joined t d op))
 expr_code t (assign ty a b) d = expr_code t b d ++ store_to (target_of t a)
@@ -112,7 +113,7 @@ value_code t (Some e) = expr_code t e 0
 
 -- a loop is left where its test is 0, and goes on with its test behind its body
 abbrev pub tested : ℕ → ℕ → List Item
-tested f k = Op (Test 0 (Reg 0)) ∷ If Equal (End f k) ∷ []
+tested f k = Op (Test eax (Reg eax)) ∷ If Equal (End f k) ∷ []
 
 abbrev pub again : ℕ → ℕ → List Item
 again f k = Goto (Top f k) ∷ Label (End f k) ∷ []
@@ -134,15 +135,15 @@ abbrev mutual
 abbrev pub zero_code : ℕ → ℕ → List Item
 zero_code q zero = []
 zero_code q (suc n) =
-    Op (Lea 7 (below q)) ∷ Op (MoveImm (Register 1) (suc n)) ∷ Op (MoveImm (Register 0) 0) ∷ Op (Str RepStosb) ∷ []
+    Op (Lea edi (below q)) ∷ Op (MoveImm (Register ecx) (suc n)) ∷ Op (MoveImm (Register eax) 0) ∷ Op (Str RepStosb) ∷ []
 
 -- function f makes a frame of so many bytes
 abbrev pub entered : (f size : ℕ) → List Item
-entered f size = Label (Entry (Body f)) ∷ Op (Stack (Push 5)) ∷ Op (Move ToOperand 4 (Reg 5)) ∷ Op (ArithImm arith.Sub (Reg 4) size) ∷ []
+entered f size = Label (Entry (Body f)) ∷ Op (Stack (Push ebp)) ∷ Op (Move ToOperand esp (Reg ebp)) ∷ Op (ArithImm arith.Sub (Reg esp) size) ∷ []
 
 -- it gives 0 where it comes to its end, and leaves its frame at the start k of its closing brace
 abbrev pub closed : (f k : ℕ) → List Item
-closed f k = Op (MoveImm (Register 0) 0) ∷ Label (Close f) ∷ Start k ∷ Op (Plain Leave) ∷ Op (Plain Ret) ∷ []
+closed f k = Op (MoveImm (Register eax) 0) ∷ Label (Close f) ∷ Start k ∷ Op (Plain Leave) ∷ Op (Plain Ret) ∷ []
 
 -- a function: its frame is made, its automatic objects become zero, and its value is in %eax when it closes
 abbrev pub func_code : Site → List Item
@@ -152,7 +153,7 @@ func_code t =
 -- main is called, and its value is the status
 abbrev pub start_code : ℕ → List Item
 start_code main =
-    CallTo (Entry (Body main)) ∷ Op (Stack (Push 0)) ∷ Op (Stack (PushImm 0)) ∷ Op (MoveImm (Register 0) 1) ∷ Op Lcall ∷ []
+    CallTo (Entry (Body main)) ∷ Op (Stack (Push eax)) ∷ Op (Stack (PushImm 0)) ∷ Op (MoveImm (Register eax) 1) ∷ Op Lcall ∷ []
 
 -- the temporaries that an expression takes
 abbrev pub temps : TExpr → ℕ

@@ -3,7 +3,7 @@ use Rattle.std.specs.Prelude.{ℕ, zero, suc, ◌≡◌, ◌<◌, List, [], ◌�
 use Rattle.mach_mem.specs.Space.{Space}
 use Rattle.mach_exec.specs.declared.Cpu.{Cpu}
 use Rattle.c_tree.specs.State.{Made}
-use Rattle.gen_small.specs.Runs.{Process, Goes, advanced}
+use Rattle.mach_exec.specs.Process.{Process, Goes, advanced}
 
 -- the registers by their names
 pub record Regs : Type 0 where

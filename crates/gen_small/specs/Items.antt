@@ -1,6 +1,7 @@
 -- Code as a list of instructions, labels and jumps, and where it stands in memory.
 use Rattle.std.specs.Prelude.{ℕ, ◌≡◌, ◌+◌, ◌-◌, ◌%◌, ◌^◌, ◌<◌, ◌≤◌, nat_le, if◌then◌else◌, List, [], ◌∷◌, ℤ, true, false, Option, Some, None, drop}
 use Rattle.std.specs.Int.{w32, cast_unsigned}
+use Rattle.mach_mem.specs.Addresses.{text_start}
 use Rattle.isa386.specs.declared.Cond.{Cond}
 use Rattle.isa386.specs.declared.Callee.TheVariants.{Relative}
 use Rattle.isa386.specs.declared.Target.TheVariants.{Near}
@@ -41,7 +42,7 @@ pub record Layout : Type 0 where
 
 -- the bytes of .text from an address on
 abbrev pub code_from : List ℕ → ℕ → List ℕ
-code_from text a = if nat_le 0x10000 a then drop (a - 0x10000) text else []
+code_from text a = if nat_le text_start a then drop (a - text_start) text else []
 
 -- the instruction i stands at a, and c is the address behind it
 pub record Stored (text : List ℕ) (a : ℕ) (i : Ins) (c : ℕ) : Type 0 where

@@ -1,5 +1,6 @@
 -- The laws of the small form's code.
 use Rattle.std.specs.Prelude.{ℕ, suc, ◌≡◌, ◌+◌, ◌-◌, ◌*◌, ◌<◌, ◌≤◌, List, [], ◌∷◌, ◌++◌, length, Some}
+use Rattle.mach_mem.specs.Addresses.{text_start}
 use Rattle.c_type.specs.declared.Kind.TheVariants.{Int}
 use Rattle.c_type.specs.Types.{num}
 use Rattle.mach_mem.specs.Space.{Space}
@@ -13,7 +14,8 @@ use Rattle.c_tree.specs.Context.{Linked}
 use Rattle.c_tree.specs.Exprs.{value}
 use Rattle.c_tree.specs.Stmts.{stmts}
 use Rattle.c_tree.specs.Calls.{rest}
-use Rattle.gen_small.specs.Runs.{Process, Goes, Exits, advanced, ran}
+use Rattle.mach_exec.specs.Process.{Goes, ran}
+use Rattle.mach_exec.specs.Ends.{Exited, Reached}
 use Rattle.gen_small.specs.Ghost.{M, process, Prog, Path}
 use Rattle.gen_small.specs.Items.{Item, Layout, code_from, Stands}
 use Rattle.gen_small.specs.Emitted.{emitted, end_of, Marked}
@@ -63,15 +65,6 @@ MainsReach =
     Agrees l w p.text s [] m → m.eip ≡ a0 → m.since + 9 ≤ most →
     Reach p (Halted p l w) m (call_main (run_of stop acts w) fuel (Some f) s) (λ x s1 m1. ⊥)
 
--- a process that exits behind so many instructions, the exit counted too, with that output
-pub record Exited (start : Process) (status : ℕ) (output : List ℕ) (most : ℕ) : Type 0 where
-  pub count : ℕ
-  pub last : Process
-  pub ran_to : ran count start ≡ Goes last
-  pub exits : advanced last ≡ Exits status
-  pub output_is : last.output ≡ output
-  pub within : suc count ≤ most
-
 -- Where the source machine ends with a status, the process exits with it and has its output, with at most `limit` instructions
 -- for each turn and as many before the first one.
 abbrev pub ExitsAlike : Type 0
@@ -84,15 +77,6 @@ ExitsAlike =
     first_state w input ≡ Gave x s → Agrees l w p.text s [] m → m.eip ≡ a0 → m.since ≡ 0 →
     (status : ℕ) (s1 : State) → run_linked w input (acts_of no_changes) stop fuel ≡ Halt (Ended status) s1 →
     Exited (process m) status s1.output (suc s1.turns * p.limit)
-
--- a process that has executed so many instructions, with that output
-pub record Reached (start : Process) (output : List ℕ) (least most : ℕ) : Type 0 where
-  pub count : ℕ
-  pub last : Process
-  pub ran_to : ran count start ≡ Goes last
-  pub output_is : last.output ≡ output
-  pub at_least : least ≤ count
-  pub within : count ≤ most
 
 -- Where the source machine is stopped at a turn, the process comes to that turn with the same output: at least one instruction
 -- for each turn before it, and at most `limit` for each turn. So the process of a run without end has no end, and its output
@@ -111,5 +95,5 @@ StopsAlike =
 -- Code stands where its bytes are, if the layout knows its starts, labels and owners, and each of its instructions has an encoding.
 abbrev pub BytesStand : Type 0
 BytesStand =
-    (p : Prog) (l : Layout) (f k : ℕ) (xs : List Item) (rest : List ℕ) (a : ℕ) → 0x10000 ≤ a → end_of a xs < 4294967296 →
+    (p : Prog) (l : Layout) (f k : ℕ) (xs : List Item) (rest : List ℕ) (a : ℕ) → text_start ≤ a → end_of a xs < 4294967296 →
     code_from p.text a ≡ emitted l.label a xs ++ rest → Marked p l f k a xs → Stands p l f k a xs (end_of a xs)

@@ -1,4 +1,3 @@
-pub mod Runs
 pub mod Ghost
 pub mod Items
 pub mod Spelled

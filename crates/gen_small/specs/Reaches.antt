@@ -7,7 +7,7 @@ use Rattle.c_tree.specs.Context.{Linked}
 use Rattle.c_tree.specs.Exprs.{Arg, Call}
 use Rattle.c_tree.specs.Stmts.{Given as Run}
 use Rattle.c_tree.specs.Calls.{library, int_var, put_byte, first_number}
-use Rattle.gen_small.specs.Runs.{Exits, Raises, advanced}
+use Rattle.mach_exec.specs.Process.{Exits, Raises, advanced}
 use Rattle.gen_small.specs.Ghost.{M, process, Prog, arrive, arrived, Path}
 use Rattle.gen_small.specs.Items.{Layout}
 use Rattle.gen_small.specs.Agree.{spell, IsVal, Ghost, Agree, Agrees}

@@ -1,7 +1,8 @@
 -- A whole program of the small form: its bytes, and how it runs.
-use Rattle.std.specs.Prelude.{ℕ, suc, ◌≡◌, ◌+◌, ◌-◌, ◌*◌, ◌≤◌, List, [], ◌∷◌, ◌++◌, length, slice_get, Some, None, if◌then◌else◌, false}
+use Rattle.std.specs.Prelude.{ℕ, suc, ◌≡◌, ◌+◌, ◌-◌, ◌*◌, ◌≤◌, List, [], ◌∷◌, ◌++◌, length, slice_get, Some, None, if◌then◌else◌}
 use Rattle.c_type.specs.declared.Kind.TheVariants.{Int}
 use Rattle.c_type.specs.Types.{num}
+use Rattle.mach_mem.specs.Addresses.{text_start}
 use Rattle.mach_mem.specs.Space.{Space, IsInitial}
 use Rattle.c_tree.specs.TStmt.{locals}
 use Rattle.c_tree.specs.TUnit.{Func}
@@ -11,7 +12,7 @@ use Rattle.c_tree.specs.Context.{Linked}
 use Rattle.c_tree.specs.Values.{Ended, Stopped}
 use Rattle.c_tree.specs.State.{State, Halt, acts_of, no_changes}
 use Rattle.c_tree.specs.Run.{main_name, run_linked}
-use Rattle.gen_small.specs.Runs.{Process}
+use Rattle.mach_exec.specs.Started.{started}
 use Rattle.gen_small.specs.Ghost.{Prog}
 use Rattle.gen_small.specs.Items.{Name, Item, Layout}
 use Rattle.gen_small.specs.Emitted.{emitted}
@@ -19,23 +20,19 @@ use Rattle.gen_small.specs.Code.{func_code, start_code}
 use Rattle.gen_small.specs.Mains.{AllInt, AllPlain}
 use Rattle.gen_small.specs.Forms.{IsFormStmts, IsNumbered, stmts_weight}
 use Rattle.gen_small.specs.Laid.{is_label, is_start, address, item_at, begins, opens, owning}
-use Rattle.gen_small.specs.Laws.{Exited, Reached}
+use Rattle.mach_exec.specs.Ends.{Exited, Reached}
 
 -- main is called and its value is the status; behind that stands main, function f
 abbrev pub whole_code : Linked → ℕ → BodyAt → List Item
 whole_code w f b = start_code f ++ func_code record { whole = w; fun = f; body = b }
 
--- the first address of code
-abbrev pub base : ℕ
-base = 65536
-
 -- where a label stands in code
 abbrev pub label_in : List Item → Name → ℕ
-label_in xs n = address (is_label n) base xs
+label_in xs n = address (is_label n) text_start xs
 
 -- the bytes of code from the first address on
 abbrev pub laid : List Item → List ℕ
-laid xs = emitted (label_in xs) base xs
+laid xs = emitted (label_in xs) text_start xs
 
 -- the bytes of .text
 unfoldable pub text_of : Linked → ℕ → BodyAt → List ℕ
@@ -44,27 +41,17 @@ text_of w f b = laid (whole_code w f b)
 -- the labels, the starts and the owners of the code of function f
 abbrev pub layout_of : ℕ → List Item → Layout
 layout_of f xs =
-    record { label = label_in xs; start = λ g k. address (is_start k) base xs; owner = λ at. (f, owning 0 at base xs) }
+    record { label = label_in xs; start = λ g k. address (is_start k) text_start xs; owner = λ at. (f, owning 0 at text_start xs) }
 
 -- its program, at whose turns nothing is done
 abbrev pub program_of : ℕ → ℕ → List Item → Prog
 program_of limit f xs =
     record {
       text = laid xs;
-      is_start = λ at. begins (item_at at base xs);
-      opens = λ at. if opens (item_at at base xs) then Some f else None;
+      is_start = λ at. begins (item_at at text_start xs);
+      opens = λ at. if opens (item_at at text_start xs) then Some f else None;
       poke = λ turns made mem. mem;
       limit = limit;
-    }
-
--- A process that has executed nothing, over its memory: the stack is empty, and the other registers are 0.
-abbrev pub started : Space → List ℕ → Process
-started mem input =
-    record {
-      cpu = record { regs = 0 ∷ 0 ∷ 0 ∷ 0 ∷ 2147483648 ∷ 0 ∷ 0 ∷ 0 ∷ []; eip = base; cf = false; zf = false; sf = false; of = false };
-      mem = mem;
-      input = input;
-      output = [];
     }
 
 -- A function body that can be main in the small form: no parameters, automatic objects of type int without initialisers, at

@@ -1,5 +1,6 @@
 // The bytes of code.
 ghost use Rattle.std.specs.Prelude.{◌≡◌, ◌≤◌, ◌<◌, ◌+◌, ◌++◌, ℕ, IfOk, IfSome, if◌then◌else◌};
+ghost use Rattle.mach_mem.specs.Addresses.{text_start, statics_start};
 ghost use Rattle.isa386.specs.Encoding.{encoding};
 ghost use Rattle.isa386.specs.Row.{IsRow};
 ghost use Rattle.gen_small.specs.declared.code_list.Label.{Label as CodeLabel};
@@ -16,7 +17,8 @@ use arrayvec::ArrayVec;
 use isa386::{Callee, Ins, PlainOp, Target, encode, len};
 use std::alloc::{AllocError, Global};
 
-const BASE: u32 = 0x1_0000;
+// The first address of .text.
+const TEXT_START: u32 = 0x1_0000;
 
 // The number of bytes of an item.
 fn width(item: &Item) -> u32
@@ -44,11 +46,11 @@ fn note_item(places: &mut Places, item: &Item, address: u32) -> Result<(), Alloc
 
 // Where the labels of code stand.
 fn places(alloc: Global, code: &Code) -> Result<Places, AllocError>
-    requires fits { e.end_of 65536 code.now.items ≤ 4194304 }
+    requires fits { e.end_of text_start code.now.items ≤ statics_start }
     ensures known { IfOk result (λ p. (n : CodeLabel) → known p n ≡ label_in code.now.items (label_of code.now.frame.fun n)) }
 {
     let mut places = Places::new(alloc);
-    let mut address = BASE;
+    let mut address = TEXT_START;
     for item in code.items() {
         note_item(&mut places, item, address)?;
         address += width(item);
@@ -65,7 +67,7 @@ fn distance(next: u32, label: u32) -> i32
 
 // The instruction of an item at an address. A label has none.
 fn instruction(item: &Item, address: u32, places: &Places) -> Option<Ins>
-    requires fits { address ≤ 4194304 }
+    requires fits { address ≤ statics_start }
     requires row { IsRowItem item.now }
     ensures row { IfSome result (λ i. IsRow i) }
     ensures bytes { (f : ℕ) (label : Name → ℕ) → ((n : CodeLabel) → known places.now n ≡ label (label_of f n)) → coded result ≡ e.item_bytes label address (item_of f item.now) }
@@ -96,7 +98,7 @@ fn push_item(
     address: u32,
     places: &Places,
 ) -> Result<(), AllocError>
-    requires fits { address ≤ 4194304 }
+    requires fits { address ≤ statics_start }
     requires row { IsRowItem item.now }
     ensures bytes { (f : ℕ) (label : Name → ℕ) → ((n : CodeLabel) → known places.now n ≡ label (label_of f n)) → IfOk result (λ _. bytes.new.items ≡ bytes.old.items ++ e.item_bytes label address (item_of f item.now)) }
 {
@@ -108,13 +110,13 @@ fn push_item(
 
 /// The bytes of code, the first of which stands at 0x00010000.
 pub(crate) fn text(alloc: Global, code: &Code) -> Result<Vec<u8>, AllocError>
-    requires fits { e.end_of 65536 code.now.items ≤ 4194304 }
+    requires fits { e.end_of text_start code.now.items ≤ statics_start }
     requires rows { AreRows code.now.items }
     ensures bytes { IfOk result (λ v. v.items ≡ laid code.now.items) }
 {
     let places = places(alloc, code)?;
     let mut bytes = Vec::new(alloc);
-    let mut address = BASE;
+    let mut address = TEXT_START;
     for item in code.items() {
         push_item(&mut bytes, item, address, &places)?;
         address += width(item);

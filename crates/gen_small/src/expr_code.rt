@@ -10,15 +10,10 @@ ghost use Rattle.gen_small.specs.Listed.{int_site};
 
 use crate::code_list::{Code, IntFrame, Item};
 use crate::operands::{below, load, store};
+use crate::registers::{EAX, ECX, ESP};
 use c_tree::{Ref, TBinary, TExpr};
 use isa386::{ArithOp, Dest, Dw, Ins, Opnd, StackOp, Way, WidenOp};
 use std::alloc::AllocError;
-
-const EAX: u8 = 0;
-
-const ECX: u8 = 1;
-
-const ESP: u8 = 4;
 
 // The byte that was pushed first, behind the four words of the call.
 const STACKED_BYTE: Opnd = Opnd::Mem {

@@ -12,20 +12,11 @@ ghost use Rattle.gen_small.specs.Whole.{IsFormMain};
 
 use crate::code_list::{Code, Item, Label};
 use crate::operands::below;
+use crate::registers::{EAX, EBP, ECX, EDI, ESP};
 use crate::stmt_code::push_stmts;
 use c_tree::{TFunc, TLocal, TLocalDecl};
 use isa386::{ArithOp, Dest, Ins, Opnd, PlainOp, StackOp, StringOp, Way};
 use std::alloc::AllocError;
-
-const EAX: u8 = 0;
-
-const ECX: u8 = 1;
-
-const ESP: u8 = 4;
-
-const EBP: u8 = 5;
-
-const EDI: u8 = 7;
 
 // How many automatic objects a declarator makes: one or none.
 fn objects_of(local: &TLocal) -> u32

@@ -8,6 +8,7 @@ mod func_code;
 mod laws;
 mod operands;
 mod places;
+mod registers;
 mod small;
 mod stmt_code;
 

@@ -3,11 +3,8 @@ ghost use Rattle.std.specs.Prelude.{◌≡◌, ◌<◌, ◌∷◌, []};
 ghost use Rattle.gen_small.specs.Items.{Op};
 ghost use Rattle.gen_small.specs.Code as code;
 
+use crate::registers::{EAX, EBP};
 use isa386::{Dw, Ins, Opnd, Way};
-
-const EAX: u8 = 0;
-
-const EBP: u8 = 5;
 
 /// The memory so many bytes, at least 1, below the base of the activation.
 pub fn below(depth: u32) -> Opnd

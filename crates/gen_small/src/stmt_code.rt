@@ -9,11 +9,10 @@ ghost use Rattle.gen_small.specs.Listed.{int_site};
 
 use crate::code_list::{Code, Item, Label};
 use crate::expr_code::push_expr;
+use crate::registers::EAX;
 use c_tree::{TExpr, TStmt};
 use isa386::{Cond, Ins, Opnd};
 use std::alloc::AllocError;
-
-const EAX: u8 = 0;
 
 // A start, and the value of its expression in %eax.
 fn push_value(code: &mut Code, start: u32, value: &TExpr) -> Result<(), AllocError>

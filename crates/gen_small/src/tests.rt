@@ -1,6 +1,7 @@
 // A program of the small form is made and run.
 ghost use Rattle.std.specs.Prelude.{◌≡◌, ◌≤◌, ◌∷◌, [], Some, IfOk, length, map};
 ghost use Rattle.std.specs.List.{flat_map};
+ghost use Rattle.mach_mem.specs.Addresses.{text_room};
 ghost use Rattle.c_type.specs.declared.Kind.TheVariants.{Int};
 ghost use Rattle.c_type.specs.Of.{type_of};
 ghost use Rattle.c_type.specs.Types.{num};
@@ -170,7 +171,7 @@ fn run(
     output: &mut Vec<u8>,
     alloc: Global,
 ) -> Result<Option<u32>, AllocError>
-    requires fits { length text.now ≤ 4128768 }
+    requires fits { length text.now ≤ text_room }
 {
     let mut memory = Regions::new(alloc, text, &[], 0)?;
     let mut cpu = started();
@@ -192,7 +193,7 @@ fn run(
 fn a_loop_writes_and_main_gives_the_status(rt: HostRuntime) -> Result<(), Fail> {
     let main = main_function(rt.alloc())?;
     let text = small_text(rt.alloc(), 0, &main)?;
-    assert!(rt; text.len() <= 4128768);
+    assert!(rt; text.len() <= text_room);
     let mut output = Vec::new(rt.alloc());
     let status = run(&text, 200, &mut output, rt.alloc())?;
     assert_eq!(rt; output.as_slice(), b"cba".as_slice());

@@ -3,7 +3,7 @@
 
 ghost use Rattle.std.specs.Prelude.{◌≡◌, ◌≢◌, []};
 ghost use Rattle.std.specs.IoError.{error_kind};
-ghost use Rattle.svr3.specs.Lines.{line_of};
+ghost use Rattle.top.specs.Lines.{line_of};
 
 mod answer;
 mod front;

@@ -1,4 +1,5 @@
 use Rattle.std.proofs.Common.{◌+◌, ◌≤◌, ◌∙◌, ◌++◌, map, drop, List, ap, sym, subst, arith}
+use Rattle.mach_mem.specs.Addresses.{text_start, statics_start}
 use Rattle.gen_small.specs.declared.code_list.Item.TheVariants.{Start}
 use Rattle.gen_small.specs.Items.{Item}
 use Rattle.gen_small.specs.Emitted.{emitted}
@@ -13,13 +14,13 @@ pub loop-item-init : goal.loop-item-init
 loop-item-init c =
     let all : List Item = c.args.code.now.items in
     let whole = c.items-item-items.ensures in
-    let fits : 65536 + size all ≤ 4194304 = (let e = end_is 65536 all in let h = c.requires.fits in omega arith) in
+    let fits : text_start + size all ≤ statics_start = (let e = end_is text_start all in let h = c.requires.fits in omega arith) in
     record {
-      fits = subst (λ xs. 65536 + size xs ≤ 4194304) (sym whole) fits;
+      fits = subst (λ xs. text_start + size xs ≤ statics_start) (sym whole) fits;
       rows = subst AreRows (sym whole) c.requires.rows;
       bytes =
-          ap (λ bytes. bytes ++ emitted (label_in c.args.code.now.items) 65536 (map (item_of c.args.code.now.frame.fun) c.items-item-items.result.now)) c.new-bytes.ensures.items
-          ∙ ap (emitted (label_in c.args.code.now.items) 65536) whole;
+          ap (λ bytes. bytes ++ emitted (label_in c.args.code.now.items) text_start (map (item_of c.args.code.now.frame.fun) c.items-item-items.result.now)) c.new-bytes.ensures.items
+          ∙ ap (emitted (label_in c.args.code.now.items) text_start) whole;
     }
 
 -- one item more

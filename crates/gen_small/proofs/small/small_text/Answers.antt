@@ -1,5 +1,6 @@
 use Rattle.std.proofs.Common.{◌≡◌, ◌∙◌, ◌≤◌, [], ap, sym, subst, arith}
 use Rattle.std.proofs.lemmas.Result.{IfOk-weaker}
+use Rattle.mach_mem.specs.Addresses.{text_start, statics_start}
 use Rattle.c_tree.specs.Bodies.{BodyAt}
 use Rattle.c_tree.specs.Context.{Linked}
 use Rattle.c_tree.specs.TypedOf.{func_of}
@@ -21,9 +22,9 @@ text-requires-clause-fits c =
     let b : BodyAt = record { unit = 0; func = func_of c.args.main.now } in
     let code = c.in_ok-code.ensures.code nothing 0 in
     let size = whole_size nothing c.args.fun b c.requires.form in
-    let end = end_is 65536 (whole_code nothing c.args.fun b) in
+    let end = end_is text_start (whole_code nothing c.args.fun b) in
     let short = c.requires.form.short in
-    subst (λ xs. end_of 65536 xs ≤ 4194304) (sym code) (omega arith)
+    subst (λ xs. end_of text_start xs ≤ statics_start) (sym code) (omega arith)
 
 pub text-requires-clause-rows : goal.text-requires-clause-rows
 text-requires-clause-rows c =

@@ -1,0 +1,2 @@
+pub mod SmallText
+pub mod Compiled
