@@ -1,10 +1,15 @@
 -- Lists that agree place by place, and the first member that has no partner.
 use Rattle.std.proofs.Common.{◌≡◌, ◌<◌, ℕ, zero, suc, List, [], ◌∷◌, ◌++◌, length, take, inl, inr, refl, ap, ◌∙◌, arith}
-use Rattle.std.specs.Prelude.{Some, slice_get}
+use Rattle.std.specs.Prelude.{Some, None, slice_get}
 use Rattle.std.specs.List.{AllZip}
 use Rattle.std.proofs.lemmas.Bool.{cases_lt}
 use Rattle.c_front.specs.First.{IsFirst}
-use Rattle.small_form.proofs.Shaped.{none_some, some_is}
+
+nothing : {A : Type 0} {x : A} → None ≡ Some x → ⊥
+nothing e = cc
+
+one_thing : {A : Type 0} {x y : A} → Some x ≡ Some y → x ≡ y
+one_thing e = cc
 
 module _ {A B : Type 0} (R : A → B → Type 0) where
   -- one pair more
@@ -34,13 +39,13 @@ module _ {A B : Type 0} (R : A → B → Type 0) where
 
   -- each member has a partner
   pub partner : (xs : List A) (ys : List B) (k : ℕ) (x : A) → AllZip R xs ys → slice_get xs k ≡ Some x → (y : B) × R x y
-  partner [] ys k x all is = absurd (none_some x is)
+  partner [] ys k x all is = absurd (nothing is)
   partner (a ∷ xs) [] k x all is = absurd all
-  partner (a ∷ xs) (b ∷ ys) zero x all is = (b, rw (some_is a x is) at all.0)
+  partner (a ∷ xs) (b ∷ ys) zero x all is = (b, rw (one_thing is) at all.0)
   partner (a ∷ xs) (b ∷ ys) (suc k) x all is = partner xs ys k x all.1 is
 
 member_before : {A : Type 0} (xs : List A) (j k : ℕ) (x : A) → k < j → slice_get xs k ≡ Some x → slice_get (take j xs) k ≡ Some x
-member_before [] j k x below is = absurd (none_some x is)
+member_before [] j k x below is = absurd (nothing is)
 member_before (a ∷ xs) zero k x below is = absurd (omega arith)
 member_before (a ∷ xs) (suc j) zero x below is = is
 member_before (a ∷ xs) (suc j) (suc k) x below is = member_before xs j k x (omega arith) is

@@ -30,10 +30,9 @@ use Rattle.c_whole.specs.declared.JoinErr.TheVariants as whole
 use Rattle.c_front.specs.Accepted.{IsUnread, IsAccepted}
 use Rattle.c_front.specs.Sources.{IsSource, units_of, texts_of}
 use Rattle.c_front.specs.Errors.{IsRightErr, IsTextErr, IsUnitErr, IsUnitsErr, lex_err, parse_err, join_refused}
-use Rattle.top.specs.declared.Refusal.TheVariants as r
 use Rattle.c_front.specs.declared.front.Source.{Source}
 use Rattle.c_front.specs.declared.front.FrontErr.{FrontErr}
-use Rattle.c_front.specs.declared.front.FrontErr.TheVariants.{Refused, Memory}
+use Rattle.c_front.specs.declared.front.FrontErr.TheVariants as r
 use Rattle.c_front.proofs.Firsts.{zip_push, first_at}
 
 -- ---- one text
@@ -97,12 +96,11 @@ source_more texts ss i t s all there is =
 -- the first text that isn't read
 pub source_fails : (texts : List (Vec ℕ Global)) (ss : List Source) (i : ℕ) (t : Vec ℕ Global) (e : FrontErr) → AllZip IsSource (take i (texts_of texts)) ss → slice_get texts i ≡ Some t → IsTextErr t.items i e
     → IsRightErr (texts_of texts) e
-source_fails texts ss i t (Refused (r.Syntax file line)) all there bad =
+source_fails texts ss i t (r.Syntax file line) all there bad =
     rw (bad.0) (first_at Reads IsUnread (texts_of texts) (units_of ss) i t.items (sources_read (take i (texts_of texts)) ss all) (at_text texts i t there) bad.1)
-source_fails texts ss i t (Refused (r.Rule file line rule)) all there bad = absurd bad
-source_fails texts ss i t (Refused (r.Join why)) all there bad = absurd bad
-source_fails texts ss i t (Refused r.Unbuilt) all there bad = absurd bad
-source_fails texts ss i t Memory all there bad = tt
+source_fails texts ss i t (r.Rule file line rule) all there bad = absurd bad
+source_fails texts ss i t (r.Join why) all there bad = absurd bad
+source_fails texts ss i t r.Memory all there bad = tt
 
 -- ---- units
 
@@ -124,21 +122,19 @@ unit_more ss ts i s t all there is =
 
 -- the first unit in which a rule fails
 pub unit_fails : (ss : List Source) (ts : List TypedUnit) (i : ℕ) (s : Source) (e : FrontErr) → AllZip IsTyped (take i (units_of ss)) ts → slice_get ss i ≡ Some s → IsUnitErr (unit_of s.unit) i e → IsUnitsErr (units_of ss) e
-unit_fails ss ts i s (Refused (r.Syntax file line)) all there bad = absurd bad
-unit_fails ss ts i s (Refused (r.Rule file line rule)) all there bad =
+unit_fails ss ts i s (r.Syntax file line) all there bad = absurd bad
+unit_fails ss ts i s (r.Rule file line rule) all there bad =
     rw (bad.0) (first_at IsTyped (λ u. UnitFails u rule) (units_of ss) ts i (unit_of s.unit) all (at_unit ss i s there) bad.1)
-unit_fails ss ts i s (Refused (r.Join why)) all there bad = absurd bad
-unit_fails ss ts i s (Refused r.Unbuilt) all there bad = absurd bad
-unit_fails ss ts i s Memory all there bad = tt
+unit_fails ss ts i s (r.Join why) all there bad = absurd bad
+unit_fails ss ts i s r.Memory all there bad = tt
 
 -- ---- the whole
 
 pub units_fail : (texts : List (List ℕ)) (ss : List Source) (e : FrontErr) → AllZip IsSource texts ss → IsUnitsErr (units_of ss) e → IsRightErr texts e
-units_fail texts ss (Refused (r.Syntax file line)) read bad = absurd bad
-units_fail texts ss (Refused (r.Rule file line rule)) read bad = record { units = units_of ss; read = sources_read texts ss read; fails = bad }
-units_fail texts ss (Refused (r.Join why)) read bad = absurd bad
-units_fail texts ss (Refused r.Unbuilt) read bad = absurd bad
-units_fail texts ss Memory read bad = tt
+units_fail texts ss (r.Syntax file line) read bad = absurd bad
+units_fail texts ss (r.Rule file line rule) read bad = record { units = units_of ss; read = sources_read texts ss read; fails = bad }
+units_fail texts ss (r.Join why) read bad = absurd bad
+units_fail texts ss r.Memory read bad = tt
 
 module _ (texts : List (List ℕ)) (ss : List Source) (ts : List TypedUnit) (read : AllZip IsSource texts ss) (all : AllZip IsTyped (units_of ss) ts) where
   pub join_fails : (e : JoinErr) → IfSome (told_as e) (IsRefused true ts) → IsRightErr texts (join_refused e)

@@ -9,7 +9,6 @@ ghost use Rattle.c_front.specs.Sources.{IsSource, units_of, texts_of};
 ghost use Rattle.c_front.specs.Errors.{IsTextErr, IsUnitErr, IsUnitsErr, IsRightErr, lex_err, parse_err, join_refused};
 ghost use Rattle.c_front.specs.Accepted.{IsAccepted};
 
-use crate::answer::Refusal;
 use c_check::check;
 use c_expr::ParseErr;
 use c_lex::{LexErr, Tokens, lex};
@@ -26,11 +25,15 @@ pub struct Source {
     pub unit: Unit,
 }
 
-/// Why texts make no program.
+/// Why texts make no program. Files are counted from 0, lines from 1.
 #[derive(Debug, Drop)]
 pub enum FrontErr {
-    /// They are refused.
-    Refused(Refusal),
+    /// This file isn't a text of C; the line is near the fault.
+    Syntax { file: u32, line: u32 },
+    /// In this file this typing rule fails, near this line.
+    Rule { file: u32, line: u32, rule: u8 },
+    /// The files don't join. The reason is never want of memory.
+    Join(JoinErr),
     /// Memory was wanting.
     Memory,
 }
@@ -46,21 +49,15 @@ impl<T: Drop> From<AllocFailed<T>> for FrontErr {
     }
 }
 
-fn syntax(file: u32, line: u32) -> FrontErr
-    ensures { result ≡ FrontErr.Refused (Refusal.Syntax file line) }
-{
-    FrontErr::Refused(Refusal::Syntax { file, line })
-}
-
 // What a refusal of a text's bytes is here.
 fn lex_refusal(file: u32, error: &LexErr) -> FrontErr
     ensures { result ≡ lex_err file error.now }
 {
     match error {
-        LexErr::BadByte(line) => syntax(file, *line),
-        LexErr::OpenComment(line) => syntax(file, *line),
-        LexErr::OpenText(line) => syntax(file, *line),
-        LexErr::NumberTooLarge(line) => syntax(file, *line),
+        LexErr::BadByte(line) => FrontErr::Syntax { file, line: *line },
+        LexErr::OpenComment(line) => FrontErr::Syntax { file, line: *line },
+        LexErr::OpenText(line) => FrontErr::Syntax { file, line: *line },
+        LexErr::NumberTooLarge(line) => FrontErr::Syntax { file, line: *line },
         LexErr::Memory => FrontErr::Memory,
     }
 }
@@ -70,8 +67,8 @@ fn parse_refusal(file: u32, error: &ParseErr) -> FrontErr
     ensures { result ≡ parse_err file error.now }
 {
     match error {
-        ParseErr::TooDeep(line) => syntax(file, *line),
-        ParseErr::NotC(line) => syntax(file, *line),
+        ParseErr::TooDeep(line) => FrontErr::Syntax { file, line: *line },
+        ParseErr::NotC(line) => FrontErr::Syntax { file, line: *line },
         ParseErr::Memory => FrontErr::Memory,
     }
 }
@@ -108,12 +105,6 @@ fn sources(alloc: Global, texts: &[Vec<u8>]) -> Result<Vec<Source>, FrontErr>
     Ok(list)
 }
 
-fn fails(file: u32, line: u32, rule: u8) -> FrontErr
-    ensures { result ≡ FrontErr.Refused (Refusal.Rule file line rule) }
-{
-    FrontErr::Refused(Refusal::Rule { file, line, rule })
-}
-
 // The typed unit of a unit.
 fn typed_unit(alloc: Global, file: u32, unit: &Unit) -> Result<TypedUnit, FrontErr>
     ensures typed { IfOk result (λ t. IsTyped (tree.unit_of unit.now) (typed.unit_of t)) }
@@ -121,7 +112,7 @@ fn typed_unit(alloc: Global, file: u32, unit: &Unit) -> Result<TypedUnit, FrontE
 {
     match check(alloc, unit) {
         Ok(typed) => Ok(typed),
-        Err(TypeErr::Rule(rule, line)) => Err(fails(file, line, rule)),
+        Err(TypeErr::Rule(rule, line)) => Err(FrontErr::Rule { file, line, rule }),
         Err(TypeErr::Memory) => Err(FrontErr::Memory),
     }
 }
@@ -147,7 +138,7 @@ fn join_refusal(error: JoinErr) -> FrontErr
 {
     match error {
         JoinErr::Memory => FrontErr::Memory,
-        other => FrontErr::Refused(Refusal::Join(other)),
+        other => FrontErr::Join(other),
     }
 }
 

@@ -1,6 +1,6 @@
 // The files of the system, and a source and a sink over a reader and a writer whose bytes are known.
-use crate::real::{RealFiles, RealSink, RealSource};
 use outside::{FileErr, Files, PutErr, Source, put_all};
+use real_io::{RealFiles, RealSink, RealSource};
 use std::test::Fail;
 
 // Whether these bytes were read.

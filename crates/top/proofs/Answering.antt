@@ -26,18 +26,28 @@ use Rattle.subject.specs.Output.{GainsFront}
 use Rattle.small_form.specs.SmallForm.{program_of_main}
 use Rattle.c_front.specs.Accepted.{IsAccepted}
 use Rattle.small_build.specs.SmallText.{AreSmallTexts}
-use Rattle.top.specs.Answer.{Runs, IsRight, Outside, IsExcused, IsSilent, IsEndWith, end_of, MachineAnswers, enough, SourceAnswers, MayEnd, TextsAnswer, ReadingAnswers, FilesAnswer, WordsAnswer, Answers}
+use Rattle.top.specs.TextsAnswer.{Runs, IsRight, MayEnd, TextsAnswer}
+use Rattle.top.specs.Outside.{Outside, IsExcused, IsSilent, IsEndWith}
+use Rattle.top.specs.MachineAnswers.{end_of, MachineAnswers}
+use Rattle.top.specs.SourceAnswers.{enough, SourceAnswers}
+use Rattle.top.specs.Answers.{ReadingAnswers, FilesAnswer, WordsAnswer, Answers}
 use Rattle.small_build.specs.Compiled.{IsCode, bytes_of}
 use Rattle.top.specs.Reading.{Reading, Texts, Lacks, Exceeds, reading, MayRead, IsReading, ReadsTexts}
 use Rattle.c_front.specs.Sources.{texts_of}
 use Rattle.top.specs.Lines.{IsNamed, IsOrMemory}
-use Rattle.top.specs.Ended.{EndsCode, stopped, broken, wanting, EndsTexts, refused, unread, ran}
+use Rattle.c_front.specs.Errors.{IsRightErr}
+use Rattle.c_front.specs.declared.FrontErr.{FrontErr}
+use Rattle.c_front.specs.declared.FrontErr.TheVariants as front
+use Rattle.top.specs.Ended.{end_unaccepted, EndsCode, stopped, broken, wanting, EndsTexts, refused, unread, ran}
 use Rattle.top.specs.declared.answer.End.{End}
 use Rattle.top.specs.declared.answer.End.TheVariants.{Ran, Signalled, Session, Built, Usage, Absent, TooLarge, Refused, ReadFault, WriteFault, Budget, Memory}
 use Rattle.top.specs.declared.answer.Refusal.{Refusal}
+use Rattle.top.specs.declared.answer.Refusal.TheVariants.{Syntax, Rule, Join}
 use Rattle.small_build.proofs.MainFits.{IsTaken, main_taken}
 use Rattle.small_build.proofs.Compiling.{one_main}
-use Rattle.c_front.proofs.Causes.{right_syntax, right_rule, right_join, right_accepted, accepted_syntax, accepted_rule, accepted_join, one_program}
+use Rattle.c_front.proofs.Causes.{accepted_syntax, accepted_rule, accepted_join}
+use Rattle.small_build.proofs.OneProgram.{one_program}
+use Rattle.top.proofs.Causes.{right_syntax, right_rule, right_join, right_accepted}
 use Rattle.subject.proofs.Ending.{one_memory, front_of_exit, earlier_front, begins_front, begins_all, breaks_front, one_stop, exits_or_spent, goes_past}
 
 -- nothing was written
@@ -126,6 +136,13 @@ module _ (f : Func) (most : ℕ) (o : Outside) (end : End) where
             split turns = omega arith
 
 -- ---- texts
+
+-- where the front end gives no program
+pub unaccepted_ends : {texts : List (List ℕ)} {most : ℕ} {old : Option (List ℕ)} {before : ℕ} {end : End} (e : FrontErr) → IsRightErr texts e → end ≡ end_unaccepted e → EndsTexts texts most old old before before end
+unaccepted_ends (front.Syntax k line) right is = refused (Syntax k line) right is refl
+unaccepted_ends (front.Rule k line rule) right is = refused (Rule k line rule) right is refl
+unaccepted_ends (front.Join why) right is = refused (Join why) right is refl
+unaccepted_ends front.Memory right is = unread is refl
 
 excused_may : (texts : List (List ℕ)) (o : Outside) (end : End) → IsExcused o end → MayEnd texts o end
 excused_may texts o end (inl is) = rw is tt

@@ -8,10 +8,21 @@ use Rattle.subject.specs.declared.Halt.{Halt}
 use Rattle.subject.specs.Process.{StopsWith, Breaks}
 use Rattle.small_build.specs.Compiled.{IsCode}
 use Rattle.c_front.specs.Accepted.{IsAccepted}
-use Rattle.top.specs.Answer.{IsRight, end_of}
+use Rattle.top.specs.TextsAnswer.{IsRight}
+use Rattle.top.specs.MachineAnswers.{end_of}
+use Rattle.c_front.specs.declared.FrontErr.{FrontErr}
+use Rattle.c_front.specs.declared.FrontErr.TheVariants as front
 use Rattle.top.specs.declared.answer.End.{End}
 use Rattle.top.specs.declared.answer.End.TheVariants.{Refused, WriteFault, Memory}
 use Rattle.top.specs.declared.answer.Refusal.{Refusal}
+use Rattle.top.specs.declared.answer.Refusal.TheVariants.{Syntax, Rule, Join}
+
+-- the end where the front end gives no program
+abbrev pub end_unaccepted : FrontErr → End
+end_unaccepted (front.Syntax k line) = Refused (Syntax k line)
+end_unaccepted (front.Rule k line rule) = Refused (Rule k line rule)
+end_unaccepted (front.Join why) = Refused (Join why)
+end_unaccepted front.Memory = Memory
 
 -- the process over these bytes has stopped, or the sink failed, or memory was wanting
 pub data EndsCode (code : List ℕ) (most : ℕ) (old new : Option (List ℕ)) (before now : ℕ) (end : End) : Type 0 where

@@ -1,6 +1,8 @@
 -- The line that tells of an end.
-use Rattle.std.specs.Prelude.{◌≡◌, ◌⊎◌, ℕ, List, [], ◌∷◌, ◌++◌, codes, decimal, slice_get, ⊤}
+use Rattle.std.specs.Prelude.{◌≡◌, ◌⊎◌, ℕ, List, [], ◌∷◌, ◌++◌, codes, decimal, slice_get, Option, take, ⊤}
+use Rattle.std.specs.Io.KnownBytes.{Appends}
 use Rattle.c_type.specs.Names.{Name, or_default}
+use Rattle.outside.specs.Causes.{Rose}
 use Rattle.c_whole.specs.declared.JoinErr.{JoinErr}
 use Rattle.c_whole.specs.declared.JoinErr.TheVariants as join
 use Rattle.top.specs.declared.answer.End.{End}
@@ -76,3 +78,7 @@ IsNamed Memory = ⊥
 -- the same end, or want of memory for its line
 abbrev pub IsOrMemory : End → End → Type 0
 IsOrMemory end now = (now ≡ end) ⊎ ((now ≡ Memory) × IsNamed end)
+
+-- a sink gained this line, or a front of it where its count of faults rose
+abbrev pub GainsLine : Option (List ℕ) → Option (List ℕ) → ℕ → ℕ → List ℕ → Type 0
+GainsLine old new before now line = Appends old new line ⊎ (Rose before now × ((n : ℕ) × Appends old new (take n line)))

@@ -1,8 +1,9 @@
 -- Files read in the order of their names.
-use Rattle.std.specs.Prelude.{◌≡◌, ◌≤◌, ℕ, nat_lt, Bool, true, List, [], ◌∷◌, length, map, Option, Some, None, All, Contains, Vec, Result, Ok, Err, ⊤}
+use Rattle.std.specs.Prelude.{◌≡◌, ◌≤◌, ℕ, nat_lt, Bool, true, List, [], ◌∷◌, length, Option, Some, None, All, Contains, Vec, Result, Ok, Err, ⊤}
 use Rattle.std.specs.declared.alloc.Global.{Global}
 use Rattle.c_type.specs.Names.{Name, pick}
 use Rattle.outside.specs.Told.{Held}
+use Rattle.c_front.specs.Sources.{texts_of}
 use Rattle.top.specs.declared.answer.End.{End}
 use Rattle.top.specs.declared.answer.End.TheVariants.{Absent, TooLarge, ReadFault, Memory}
 
@@ -42,10 +43,6 @@ MayRead names (Exceeds name) = Contains names name
 abbrev pub IsReading : Option Held → List Name → Reading → Type 0
 IsReading None names r = MayRead names r
 IsReading (Some held) names r = reading held names ≡ r
-
--- the bytes of texts
-abbrev pub texts_of : List (Vec ℕ Global) → List (List ℕ)
-texts_of texts = map (λ text. text.items) texts
 
 -- What the code reads. A fault or want of memory says nothing of the files.
 abbrev pub ReadsTexts : Option Held → List Name → Result (Vec (Vec ℕ Global) Global) End → Type 0

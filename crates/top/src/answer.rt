@@ -1,10 +1,14 @@
 // How a call ends.
-ghost use Rattle.std.specs.Prelude.{◌≡◌};
-ghost use Rattle.top.specs.Answer.{status_of};
+ghost use Rattle.std.specs.Prelude.{◌≡◌, ◌≢◌, []};
+ghost use Rattle.std.specs.IoError.{error_kind};
+ghost use Rattle.top.specs.Lines.{line_of};
+ghost use Rattle.top.specs.Status.{status_of};
 
 use c_whole::JoinErr;
 use num_le::Name;
 use std::alloc::AllocFailed;
+use std::io;
+use std::io::ErrorKind;
 
 /// Why a program is refused. Files are counted from 0.
 #[derive(Debug, Drop)]
@@ -73,5 +77,18 @@ pub fn status(end: &End) -> u8
         End::ReadFault | End::WriteFault => 6,
         End::Budget => 7,
         End::Memory => 8,
+    }
+}
+
+/// The end where the words can't be read, and its line: want of memory, or words that aren't text.
+pub fn unread(error: &io::Error) -> (End, &'static [u8])
+    ensures memory { error_kind error.now ≡ ErrorKind.OutOfMemory → result.0 ≡ End.Memory }
+    ensures usage { error_kind error.now ≢ ErrorKind.OutOfMemory → result.0 ≡ End.Usage }
+    ensures line { result.1.now ≡ line_of [] result.0 }
+{
+    if error.kind() == ErrorKind::OutOfMemory {
+        (End::Memory, b"svr3: memory\n")
+    } else {
+        (End::Usage, b"svr3: usage\n")
     }
 }

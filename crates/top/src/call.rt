@@ -1,26 +1,28 @@
 // The top call.
 ghost use Rattle.std.specs.Prelude.{◌≡◌, ◌≤◌, length, All};
 ghost use Rattle.std.specs.List.{AllZip};
+ghost use Rattle.mach_mem.specs.Addresses.{text_room};
 ghost use Rattle.c_tree.specs.TypedOf.{program_of};
-ghost use Rattle.top.specs.Answer.{Answers, FilesAnswer, GainsLine, end_of, outside};
+ghost use Rattle.top.specs.Answers.{Answers, FilesAnswer};
+ghost use Rattle.top.specs.Lines.{GainsLine, IsOrMemory, line_of};
+ghost use Rattle.top.specs.MachineAnswers.{end_of};
+ghost use Rattle.top.specs.Outside.{outside};
 ghost use Rattle.top.specs.Command.{files_asked};
 ghost use Rattle.top.specs.Ended.{EndsCode, EndsTexts};
 ghost use Rattle.c_front.specs.Accepted.{IsAccepted};
 ghost use Rattle.c_front.specs.Sources.{IsSource, texts_of};
-ghost use Rattle.top.specs.Lines.{IsOrMemory, line_of};
 
 use crate::answer::{End, Refusal};
-use crate::front::{Accepted, FrontErr, accept};
 use crate::lines::{fixed_line, line};
-use crate::machine::{Stuck, run_text};
-use crate::process::Halt;
-use crate::program::text_of;
 use crate::reading::texts;
-use crate::small_form::Fault;
 use crate::words::{Words, asked};
+use c_front::{Accepted, FrontErr, accept};
 use num_le::Name;
 use outside::{Files, Sink, Source, put_all};
+use small_build::text_of;
+use small_form::Fault;
 use std::alloc::Global;
+use subject::{Halt, Stuck, run_text};
 
 // The end where a process has stopped.
 fn stopped(halt: Halt) -> End
@@ -35,7 +37,7 @@ fn stopped(halt: Halt) -> End
 
 // The end of the program of these bytes of .text.
 fn run_code<S: Sink>(alloc: Global, code: &[u8], most: u64, out: &mut S) -> End
-    requires fits { length code.now ≤ 4128768 }
+    requires fits { length code.now ≤ text_room }
     ensures end { EndsCode code.now most (S.held out.old) (S.held out.new) (S.faults out.old) (S.faults out.new) result }
 {
     match run_text(alloc, code, most, out) {
@@ -64,6 +66,18 @@ fn run_program<S: Sink>(
     }
 }
 
+// The end where texts make no program.
+fn unaccepted(error: FrontErr) -> End
+    ensures { result ≡ end_unaccepted error }
+{
+    match error {
+        FrontErr::Syntax { file, line } => End::Refused(Refusal::Syntax { file, line }),
+        FrontErr::Rule { file, line, rule } => End::Refused(Refusal::Rule { file, line, rule }),
+        FrontErr::Join(why) => End::Refused(Refusal::Join(why)),
+        FrontErr::Memory => End::Memory,
+    }
+}
+
 // Runs texts within the limit.
 fn run_texts<S: Sink>(alloc: Global, texts: &[Vec<u8>], most: u64, out: &mut S) -> End
     requires few { length texts.now ≤ 10000 }
@@ -72,8 +86,7 @@ fn run_texts<S: Sink>(alloc: Global, texts: &[Vec<u8>], most: u64, out: &mut S) 
 {
     match accept(alloc, texts) {
         Ok(program) => run_program(alloc, texts, &program, most, out),
-        Err(FrontErr::Refused(refusal)) => End::Refused(refusal),
-        Err(FrontErr::Memory) => End::Memory,
+        Err(error) => unaccepted(error),
     }
 }
 

@@ -1,13 +1,11 @@
 // Whole calls over memory.
-use crate::answer::{End, Refusal, status};
-use crate::top::svr3;
-use crate::words::Words;
 use c_whole::JoinErr;
 use num_le::Name;
 use outside::{MemFiles, MemSink, MemSource};
 use std::alloc::Global;
 use std::process::Abort;
 use std::test::Fail;
+use top::{End, Refusal, Words, status, svr3};
 
 // What a call is made of: its words, the files with their texts, the calls of the files that fail, and those of the output.
 #[derive(Drop)]

@@ -1,6 +1,6 @@
 use Rattle.std.proofs.Common.{◌∙◌, ap, Err}
 use Rattle.std.proofs.KnownBytes.{Appends-nil}
-use Rattle.top.specs.Answer.{outside}
+use Rattle.top.specs.Outside.{outside}
 use Rattle.top.proofs.Answering.{texts_answered, unread_answered}
 use Rattle.top.proofs.call.run.Goals as goal
 

@@ -1,9 +1,5 @@
-use Rattle.std.proofs.Common.{ap, refl}
-use Rattle.top.specs.Ended.{refused}
-use Rattle.top.specs.declared.answer.End.TheVariants.{Refused}
+use Rattle.top.proofs.Answering.{unaccepted_ends}
 use Rattle.top.proofs.call.run_texts.Goals as goal
 
-pub returns-in-Err-Refused : goal.returns-in-Err-Refused
-returns-in-Err-Refused g c =
-    let right = rw (c.in-Err-Refused.field-0-is) at c.in-Err-Refused.ensures.refused in
-    record { end = refused c.in-Err-Refused.refusal right (ap Refused c.in-Err-Refused.refusal-is) refl }
+pub returns-in-Err : goal.returns-in-Err
+returns-in-Err g c = record { end = unaccepted_ends c.in-Err.error c.in-Err.ensures.refused c.unaccepted.ensures }

@@ -1,5 +1,5 @@
 use Rattle.std.proofs.KnownBytes.{Appends-nil}
-use Rattle.top.specs.Answer.{outside}
+use Rattle.top.specs.Outside.{outside}
 use Rattle.top.proofs.Wording.{few_files, files_are}
 use Rattle.top.proofs.Answering.{asked_answers, memory_answers, told_answers, only_memory}
 use Rattle.top.proofs.call.svr3.Goals as goal
