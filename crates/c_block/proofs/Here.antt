@@ -8,11 +8,11 @@ use Rattle.c_tree.specs.declared.decl.LocalDecl.{LocalDecl}
 use Rattle.c_tree.specs.TreeDecl as ud
 use Rattle.c_tree.specs.TStmt as st
 use Rattle.c_tree.specs.TreeOf.{item_of, local_of}
-use Rattle.c_tree.specs.RuleScope.{onward, Env}
-use Rattle.c_tree.specs.RuleTypes.{is_function, spec_or_int}
-use Rattle.c_tree.specs.RuleDecls.{past_declr}
-use Rattle.c_tree.specs.RuleStmts.{missing, declr_line}
-use Rattle.c_scope.specs.Judging.{Behind, behind, judged_declr, judged_local, judged_locals, judged_decls}
+use Rattle.c_rule.specs.RuleScope.{onward, Env}
+use Rattle.c_rule.specs.RuleTypes.{is_function, spec_or_int}
+use Rattle.c_rule.specs.RuleDecls.{past_declr}
+use Rattle.c_rule.specs.RuleStmts.{missing, declr_line}
+use Rattle.c_rule.specs.Judging.{Behind, behind, judged_declr, judged_local, judged_locals, judged_decls}
 use Rattle.c_block.specs.Here.{judged_item_here, judged_decl_here}
 use Rattle.c_block.proofs.Lists.{front, in_front, twice, thrice}
 

@@ -17,11 +17,11 @@ use Rattle.c_tree.specs.TreeOf.{init_of, inits_from}
 use Rattle.c_tree.proofs.Of.{init_of-Group}
 use Rattle.c_tree.specs.TStmt as st
 use Rattle.c_tree.specs.TypedOf as typed
-use Rattle.c_tree.specs.RuleScope.{Judged, Fails, onward, Env}
-use Rattle.c_tree.specs.RuleDecls.{fills_chars}
+use Rattle.c_rule.specs.RuleScope.{Judged, Fails, onward, Env}
+use Rattle.c_rule.specs.RuleDecls.{fills_chars}
 use Rattle.c_scope.specs.declared.error.TypeErr.{TypeErr}
 use Rattle.c_scope.specs.declared.error.TypeErr.TheVariants.{Rule, Memory}
-use Rattle.c_scope.specs.Judging.{Behind, behind, judged_single, judged_init, judged_inits}
+use Rattle.c_rule.specs.Judging.{Behind, behind, judged_single, judged_init, judged_inits}
 use Rattle.c_scope.specs.Says.{Refused}
 use Rattle.c_block.specs.Initialisers.{filled_by, grouped}
 use Rattle.c_block.proofs.FromHere.{from_here}

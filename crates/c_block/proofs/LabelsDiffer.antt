@@ -4,7 +4,7 @@ use Rattle.std.proofs.lemmas.Cmp.{nat_eq_equiv}
 use Rattle.std.specs.List.{list_any}
 use Rattle.c_tree.specs.TExpr.{TExpr}
 use Rattle.c_tree.specs.TStmt.{TStmt, TItems, no_items, case_, default_, more_items}
-use Rattle.c_tree.specs.RuleStmts.{has_case, has_default, labels_differ}
+use Rattle.c_rule.specs.RuleStmts.{has_case, has_default, labels_differ}
 
 -- none of these is a case
 abbrev pub fresh : List ℕ → TItems → Bool

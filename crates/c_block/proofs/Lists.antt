@@ -1,10 +1,10 @@
 -- Lists of parts, each judged where those before it stand.
 use Rattle.std.proofs.Common.{◌≡◌, List, [], ◌∷◌, ◌++◌, map, Result, Err, IsErrAnd, refl, sym, ap, ◌∙◌, subst}
 use Rattle.std.proofs.lemmas.Result.{err_from_is_err_and}
-use Rattle.c_tree.specs.RuleScope.{Judged, Is, Fails, onward, Env}
+use Rattle.c_rule.specs.RuleScope.{Judged, Is, Fails, onward, Env}
 use Rattle.c_scope.specs.declared.error.TypeErr.{TypeErr}
 use Rattle.c_scope.specs.declared.error.TypeErr.TheVariants.{Rule, Memory}
-use Rattle.c_scope.specs.Judging.{Behind, behind}
+use Rattle.c_rule.specs.Judging.{Behind, behind}
 use Rattle.c_scope.specs.Says.{Refused, Says}
 
 -- these parts before the rest

@@ -8,10 +8,10 @@ use Rattle.c_tree.specs.TreeDecl as ud
 use Rattle.c_tree.specs.TExpr as e
 use Rattle.c_tree.specs.TreeOf.{init_of, inits_from}
 use Rattle.c_tree.proofs.Of.{init_of-Group}
-use Rattle.c_tree.specs.RuleScope.{Env, Meaning, Alias, Constant, Thing, Function, started}
-use Rattle.c_tree.specs.RuleTypes.{joined}
-use Rattle.c_tree.specs.RuleDecls.{given_by, count_inits}
-use Rattle.c_tree.specs.RuleStmts.{past_init, with_earlier}
+use Rattle.c_rule.specs.RuleScope.{Env, Meaning, Alias, Constant, Thing, Function, started}
+use Rattle.c_rule.specs.RuleTypes.{joined}
+use Rattle.c_rule.specs.RuleDecls.{given_by, count_inits}
+use Rattle.c_rule.specs.RuleStmts.{past_init, with_earlier}
 use Rattle.c_block.specs.Here.{external_type}
 
 -- an initialiser's texts and the numbers behind it are counted in either order

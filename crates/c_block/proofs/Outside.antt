@@ -9,15 +9,15 @@ use Rattle.c_tree.specs.TreeExpr.{Expr}
 use Rattle.c_tree.specs.TreeStmt as us
 use Rattle.c_tree.specs.TStmt as st
 use Rattle.c_tree.specs.TStmt.{TStmts, Declr, Local, LocalDecl}
-use Rattle.c_tree.specs.RuleScope.{Judged, Is, Fails, onward, provided, Env, Entry, Meaning, known, is_sized, past, past_option, started}
-use Rattle.c_tree.specs.RuleTypes.{is_function, spec_or_int}
-use Rattle.c_tree.specs.RuleValues.{used, scalar, integer}
-use Rattle.c_tree.specs.RuleDecls.{constant_of, past_declr, fills_chars, first_value, is_aggregate, part_types}
-use Rattle.c_tree.specs.RuleStmts.{is_free, innermost, added, enter, leave, missing, past_init, declr_line, Place, in_loop, in_switch, returned, labels_differ}
+use Rattle.c_rule.specs.RuleScope.{Judged, Is, Fails, onward, provided, Env, Entry, Meaning, known, is_sized, past, past_option, started}
+use Rattle.c_rule.specs.RuleTypes.{is_function, spec_or_int}
+use Rattle.c_rule.specs.RuleValues.{used, scalar, integer}
+use Rattle.c_rule.specs.RuleDecls.{constant_of, past_declr, fills_chars, first_value, is_aggregate, part_types}
+use Rattle.c_rule.specs.RuleStmts.{is_free, innermost, added, enter, leave, missing, past_init, declr_line, Place, in_loop, in_switch, returned, labels_differ}
 use Rattle.c_scope.specs.declared.error.TypeErr.{TypeErr}
 use Rattle.c_scope.specs.declared.error.TypeErr.TheVariants.{Rule, Memory}
 use Rattle.c_scope.specs.Blocks.{around}
-use Rattle.c_scope.specs.Judging.{Behind, behind, judged_by, judged_option, judged_declr, judged_single, judged_init, judged_inits, judged_begin, judged_auto_init, declared_here, judged_auto, judged_static, judged_local, judged_locals, judged_decls, judged_stmt, judged_stmts, judged_items}
+use Rattle.c_rule.specs.Judging.{Behind, behind, judged_by, judged_option, judged_declr, judged_single, judged_init, judged_inits, judged_begin, judged_auto_init, declared_here, judged_auto, judged_static, judged_local, judged_locals, judged_decls, judged_stmt, judged_stmts, judged_items}
 use Rattle.c_scope.specs.Says.{Refused}
 
 -- where an outcome has an environment behind it, that meets the condition

@@ -20,13 +20,13 @@ use Rattle.c_tree.specs.TExpr.{TExpr}
 use Rattle.c_tree.specs.TStmt as st
 use Rattle.c_tree.specs.TStmt.{TStmts, TItems, more_stmts}
 use Rattle.c_tree.specs.TypedOf.{expr_of, stmt_of, stmts_of, stmts_from, item_of, items_of, items_from, local_decl_of}
-use Rattle.c_tree.specs.RuleScope.{Judged, Is, onward, provided, Env, past, past_option, started}
-use Rattle.c_tree.specs.RuleValues.{used, scalar, integer, value_for}
-use Rattle.c_tree.specs.RuleDecls.{constant_of}
-use Rattle.c_tree.specs.RuleStmts.{Place, in_loop, in_switch, labels_differ}
+use Rattle.c_rule.specs.RuleScope.{Judged, Is, onward, provided, Env, past, past_option, started}
+use Rattle.c_rule.specs.RuleValues.{used, scalar, integer, value_for}
+use Rattle.c_rule.specs.RuleDecls.{constant_of}
+use Rattle.c_rule.specs.RuleStmts.{Place, in_loop, in_switch, labels_differ}
 use Rattle.c_scope.specs.declared.error.TypeErr.{TypeErr}
 use Rattle.c_scope.specs.declared.error.TypeErr.TheVariants.{Rule, Memory}
-use Rattle.c_scope.specs.Judging.{Behind, behind, judged_by, judged_option, judged_stmt, judged_stmts, judged_items}
+use Rattle.c_rule.specs.Judging.{Behind, behind, judged_by, judged_option, judged_stmt, judged_stmts, judged_items}
 use Rattle.c_scope.specs.Says.{Refused}
 use Rattle.c_block.specs.SwitchParts as sp
 use Rattle.c_block.specs.SwitchParts.{Part, put, part_of, judged_part}

@@ -6,10 +6,10 @@ use Rattle.c_type.specs.Types.{CType}
 use Rattle.c_tree.specs.declared.expr.Expr.{Expr as RustExpr, Call}
 use Rattle.c_tree.specs.TreeDecl as ud
 use Rattle.c_tree.specs.TreeExpr.{Expr}
-use Rattle.c_tree.specs.RuleScope.{Env, met, past, past_option}
-use Rattle.c_tree.specs.RuleTypes.{declared_type}
-use Rattle.c_tree.specs.RuleDecls.{past_declr}
-use Rattle.c_tree.specs.RuleTexts.{texts_in, texts_in_all}
+use Rattle.c_rule.specs.RuleScope.{Env, met, past, past_option}
+use Rattle.c_rule.specs.RuleTypes.{declared_type}
+use Rattle.c_rule.specs.RuleDecls.{past_declr}
+use Rattle.c_rule.specs.RuleTexts.{texts_in, texts_in_all}
 use Rattle.c_tree.specs.TreeOf.{expr_of, exprs_from}
 use Rattle.c_tree.proofs.Of.{expr_of-Call}
 

@@ -6,11 +6,11 @@ use Rattle.c_tree.specs.declared.decl.Storage.{Storage}
 use Rattle.c_tree.specs.TreeDecl as ud
 use Rattle.c_tree.specs.TExpr as e
 use Rattle.c_tree.specs.TStmt.{Local, LocalDecl}
-use Rattle.c_tree.specs.RuleScope.{Judged, onward, Env, Meaning, Thing}
-use Rattle.c_tree.specs.RuleTypes.{is_function, spec_or_int}
-use Rattle.c_tree.specs.RuleDecls.{past_declr}
-use Rattle.c_tree.specs.RuleStmts.{missing, declr_line}
-use Rattle.c_scope.specs.Judging.{Behind, behind, judged_declr, judged_local, judged_locals}
+use Rattle.c_rule.specs.RuleScope.{Judged, onward, Env, Meaning, Thing}
+use Rattle.c_rule.specs.RuleTypes.{is_function, spec_or_int}
+use Rattle.c_rule.specs.RuleDecls.{past_declr}
+use Rattle.c_rule.specs.RuleStmts.{missing, declr_line}
+use Rattle.c_rule.specs.Judging.{Behind, behind, judged_declr, judged_local, judged_locals}
 
 abbrev pub judged_item_here : Env → Option Storage → CType → ud.Item → Judged (Behind Local)
 judged_item_here c s base i =

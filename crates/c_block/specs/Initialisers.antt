@@ -7,7 +7,7 @@ use Rattle.c_tree.specs.TreeExpr as u
 use Rattle.c_tree.specs.TreeExpr.{Expr}
 use Rattle.c_tree.specs.TStmt as st
 use Rattle.c_tree.specs.TypedOf.{init_of}
-use Rattle.c_tree.specs.RuleDecls.{fills_chars}
+use Rattle.c_rule.specs.RuleDecls.{fills_chars}
 
 -- the initialisers of a list
 abbrev pub grouped : List TInit → st.Inits

@@ -7,10 +7,10 @@ use Rattle.c_tree.specs.TExpr.{TExpr}
 use Rattle.c_tree.specs.TStmt as st
 use Rattle.c_tree.specs.TStmt.{TStmt, TItems}
 use Rattle.c_tree.specs.TypedOf.{expr_of, stmt_of}
-use Rattle.c_tree.specs.RuleScope.{Judged, onward, Env, past}
-use Rattle.c_tree.specs.RuleDecls.{constant_of}
-use Rattle.c_tree.specs.RuleStmts.{Place}
-use Rattle.c_scope.specs.Judging.{Behind, behind, judged_by, judged_stmt}
+use Rattle.c_rule.specs.RuleScope.{Judged, onward, Env, past}
+use Rattle.c_rule.specs.RuleDecls.{constant_of}
+use Rattle.c_rule.specs.RuleStmts.{Place}
+use Rattle.c_rule.specs.Judging.{Behind, behind, judged_by, judged_stmt}
 
 -- a part of a switch without those behind it
 pub data Part : Type 0 where

@@ -4,11 +4,11 @@
 ghost use Rattle.std.specs.Prelude.{◌≡◌, map, IfOk, OnOk};
 ghost use Rattle.c_tree.specs.TreeOf as u;
 ghost use Rattle.c_tree.specs.TreeStmt as us;
-ghost use Rattle.c_tree.specs.RuleScope.{onward, past, provided, started};
-ghost use Rattle.c_tree.specs.RuleValues as v;
+ghost use Rattle.c_rule.specs.RuleScope.{onward, past, provided, started};
+ghost use Rattle.c_rule.specs.RuleValues as v;
 ghost use Rattle.c_tree.specs.TStmt as st;
 ghost use Rattle.c_tree.specs.TypedOf.{option_of, stmt_of, stmts_from, items_from, local_decl_of};
-ghost use Rattle.c_scope.specs.Judging.{behind, judged_by, judged_stmt, judged_stmts, judged_items};
+ghost use Rattle.c_rule.specs.Judging.{behind, judged_by, judged_stmt, judged_stmts, judged_items};
 ghost use Rattle.c_scope.specs.EnvOf.{env_of};
 ghost use Rattle.c_scope.specs.Says.{Says, SaysBehind};
 ghost use Rattle.c_value.specs.Boxed.{boxed, boxed_option};

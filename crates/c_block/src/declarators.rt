@@ -2,10 +2,10 @@
 ghost use Rattle.std.specs.Prelude.{◌≡◌, [], IfOk, None, OnOk};
 ghost use Rattle.c_type.specs.Of.{type_of};
 ghost use Rattle.c_tree.specs.TreeOf as u;
-ghost use Rattle.c_tree.specs.RuleScope.{Is};
-ghost use Rattle.c_tree.specs.RuleDecls as r;
-ghost use Rattle.c_tree.specs.RuleStmts.{declr_line};
-ghost use Rattle.c_scope.specs.Judging.{judged_by, judged_derived, judged_declr, with_dimension};
+ghost use Rattle.c_rule.specs.RuleScope.{Is};
+ghost use Rattle.c_rule.specs.RuleDecls as r;
+ghost use Rattle.c_rule.specs.RuleStmts.{declr_line};
+ghost use Rattle.c_rule.specs.Judging.{judged_by, judged_derived, judged_declr, with_dimension};
 ghost use Rattle.c_value.specs.Boxed.{boxed};
 ghost use Rattle.c_value.specs.Numbers.{number_of};
 ghost use Rattle.c_block.specs.Boxed.{boxed_declr};

@@ -1,6 +1,6 @@
 // Whether the labels of a switch differ from one another.
 ghost use Rattle.std.specs.Prelude.{◌≡◌, IfOk};
-ghost use Rattle.c_tree.specs.RuleStmts as s;
+ghost use Rattle.c_rule.specs.RuleStmts as s;
 ghost use Rattle.c_tree.specs.TypedOf.{items_from};
 
 use c_tree::TSwItem;

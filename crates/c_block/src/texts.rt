@@ -6,9 +6,9 @@
 
 ghost use Rattle.std.specs.Prelude.{◌≡◌, ◌++◌, ◌∷◌, [], IfOk, OnOk};
 ghost use Rattle.c_tree.specs.TreeOf as u;
-ghost use Rattle.c_tree.specs.RuleDecls.{past_declr};
-ghost use Rattle.c_tree.specs.RuleScope.{met};
-ghost use Rattle.c_tree.specs.RuleTexts.{texts_in, texts_in_all};
+ghost use Rattle.c_rule.specs.RuleDecls.{past_declr};
+ghost use Rattle.c_rule.specs.RuleScope.{met};
+ghost use Rattle.c_rule.specs.RuleTexts.{texts_in, texts_in_all};
 ghost use Rattle.c_scope.specs.EnvOf.{env_of};
 
 use c_scope::Scopes;

@@ -1,6 +1,6 @@
 // Scopes before the first part of a unit, in a box: what drops them has one step, and not one for each of their fields.
 ghost use Rattle.std.specs.Prelude.{◌≡◌, [], IfOk};
-ghost use Rattle.c_tree.specs.RuleUnit.{at_first};
+ghost use Rattle.c_rule.specs.RuleUnit.{at_first};
 ghost use Rattle.c_scope.specs.EnvOf.{env_of};
 
 use c_scope::Scopes;

@@ -1,9 +1,9 @@
 -- A list of parts is judged by its parts in order, each where those before it stand.
 use Rattle.std.proofs.Common.{◌≡◌, ℕ, ◌+◌, ◌<◌, ◌≤◌, List, [], ◌∷◌, ◌++◌, drop, length, slice_index_or, ap, ◌∙◌}
 use Rattle.std.proofs.lemmas.List.{drop_all}
-use Rattle.c_tree.specs.RuleScope.{Judged, Env}
+use Rattle.c_rule.specs.RuleScope.{Judged, Env}
 use Rattle.c_scope.specs.declared.error.TypeErr.{TypeErr}
-use Rattle.c_scope.specs.Judging.{Behind, behind}
+use Rattle.c_rule.specs.Judging.{Behind, behind}
 use Rattle.c_scope.specs.Says.{Refused}
 use Rattle.c_block.proofs.FromHere.{from_here}
 use Rattle.c_block.proofs.Lists.{onto, with_parts, front, none_before, next_part, part_refused, all_parts}

@@ -3,14 +3,14 @@ use Rattle.std.proofs.Common.{ℕ, Result, Ok, Err, IfOk, IfErr, OnOk}
 use Rattle.c_tree.specs.declared.typed_unit.TypedUnit.{TypedUnit}
 use Rattle.c_tree.specs.TreeUnit.{Unit}
 use Rattle.c_tree.specs.TypedOf.{unit_of}
-use Rattle.c_tree.specs.RuleUnit.{IsTyped}
-use Rattle.c_tree.specs.RuleFailsUnit.{UnitFails}
-use Rattle.c_tree.proofs.ApartUnit.{unit_apart}
+use Rattle.c_rule.specs.RuleUnit.{IsTyped}
+use Rattle.c_rule.specs.RuleFailsUnit.{UnitFails}
+use Rattle.c_rule.proofs.ApartUnit.{unit_apart}
 use Rattle.c_scope.specs.declared.error.TypeErr.{TypeErr}
 use Rattle.c_scope.specs.declared.error.TypeErr.TheVariants as why
-use Rattle.c_scope.specs.JudgingUnit.{judged}
+use Rattle.c_rule.specs.JudgingUnit.{judged}
 use Rattle.c_scope.specs.Says.{Says}
-use Rattle.c_scope.proofs.TypingLaws.{is_sound}
+use Rattle.c_rule.proofs.TypingLaws.{is_sound}
 use Rattle.c_check.specs.Tells.{Tells}
 
 pub typed_by : (y : Unit) (r : Result TypedUnit TypeErr) → Says unit_of (judged y) r → IfOk r (λ x. IsTyped y (unit_of x))

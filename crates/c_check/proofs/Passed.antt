@@ -2,8 +2,8 @@
 use Rattle.std.proofs.Common.{◌≡◌, Option, Some, None, refl, ◌∙◌}
 use Rattle.c_tree.specs.TreeDecl as ud
 use Rattle.c_tree.specs.TreeExpr.{Expr}
-use Rattle.c_tree.specs.RuleScope.{Env, past_option}
-use Rattle.c_tree.specs.RuleDecls.{past_declr}
+use Rattle.c_rule.specs.RuleScope.{Env, past_option}
+use Rattle.c_rule.specs.RuleDecls.{past_declr}
 
 pub file_behind_option : (a : Option Expr) (c : Env) → (past_option a c).file ≡ c.file
 file_behind_option None c = refl

@@ -9,7 +9,7 @@ use Rattle.c_type.specs.Types.{num}
 use Rattle.c_tree.specs.declared.typed_stmt.TDeclr.{TDeclr}
 use Rattle.c_tree.specs.TypedOf.{declr_of}
 use Rattle.c_tree.specs.TStmt.{Declr}
-use Rattle.c_tree.specs.RuleUnit.{as_parameter, is_listed, parameter_type}
+use Rattle.c_rule.specs.RuleUnit.{as_parameter, is_listed, parameter_type}
 use Rattle.c_check.specs.Parameters.{type_at, type_by}
 use Rattle.c_check.specs.Places.{place_from}
 

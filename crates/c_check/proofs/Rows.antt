@@ -12,13 +12,13 @@ use Rattle.c_tree.specs.declared.unit.Ext.{Ext}
 use Rattle.c_tree.specs.TreeOf.{declr_of, en_of, ext_of, item_of, mem_of, mems_from, par_of, types_of}
 use Rattle.c_tree.specs.TStmt as st
 use Rattle.c_tree.specs.TUnit as t
-use Rattle.c_tree.specs.RuleScope.{Judged, Is, Fails, onward, provided, Env, Alias, Constant, past_option}
-use Rattle.c_tree.specs.RuleTypes.{is_function}
-use Rattle.c_tree.specs.RuleDecls.{past_declr}
-use Rattle.c_tree.specs.RuleStmts.{is_free, missing}
-use Rattle.c_tree.specs.RuleTags.{in_file}
-use Rattle.c_scope.specs.Judging.{Behind, behind, judged_declr}
-use Rattle.c_scope.specs.JudgingUnit as j
+use Rattle.c_rule.specs.RuleScope.{Judged, Is, Fails, onward, provided, Env, Alias, Constant, past_option}
+use Rattle.c_rule.specs.RuleTypes.{is_function}
+use Rattle.c_rule.specs.RuleDecls.{past_declr}
+use Rattle.c_rule.specs.RuleStmts.{is_free, missing}
+use Rattle.c_rule.specs.RuleTags.{in_file}
+use Rattle.c_rule.specs.Judging.{Behind, behind, judged_declr}
+use Rattle.c_rule.specs.JudgingUnit as j
 use Rattle.c_block.proofs.Lists.{front, in_front, given, twice, thrice}
 use Rattle.c_check.specs.TagParts.{MemPart, put, judged_mem, judged_member_here, judged_enumerator_here}
 use Rattle.c_check.specs.FileParts.{judged_alias_here, judged_item_here}

@@ -16,10 +16,10 @@ use Rattle.c_tree.specs.TUnit as u
 use Rattle.c_tree.specs.TypedOf.{spec_of, mems_of, declr_of}
 use Rattle.c_type.specs.declared.TagKind.TheVariants.{Struct as StructKind}
 use Rattle.c_type.specs.Types.{Tag, Member as TypeMember, struct}
-use Rattle.c_tree.specs.RuleScope.{Judged, onward, provided, Env, known, close}
-use Rattle.c_tree.specs.RuleTags.{names_differ, unplaced}
-use Rattle.c_scope.specs.Judging.{Behind, behind}
-use Rattle.c_scope.specs.JudgingUnit as j
+use Rattle.c_rule.specs.RuleScope.{Judged, onward, provided, Env, known, close}
+use Rattle.c_rule.specs.RuleTags.{names_differ, unplaced}
+use Rattle.c_rule.specs.Judging.{Behind, behind}
+use Rattle.c_rule.specs.JudgingUnit as j
 use Rattle.c_block.proofs.Lists.{onto}
 use Rattle.c_check.specs.TagParts.{mem_part, put, body_from}
 

@@ -5,13 +5,13 @@ use Rattle.c_tree.specs.declared.decl.Storage.{Storage}
 use Rattle.c_tree.specs.TreeDecl as ud
 use Rattle.c_tree.specs.TStmt.{Declr}
 use Rattle.c_tree.specs.TUnit.{Item}
-use Rattle.c_tree.specs.RuleScope.{Judged, onward, provided, Env, Alias}
-use Rattle.c_tree.specs.RuleTypes.{is_function}
-use Rattle.c_tree.specs.RuleDecls.{past_declr}
-use Rattle.c_tree.specs.RuleStmts.{is_free, missing}
-use Rattle.c_tree.specs.RuleTags.{in_file}
-use Rattle.c_scope.specs.Judging.{Behind, behind, judged_declr}
-use Rattle.c_scope.specs.JudgingUnit.{judged_item}
+use Rattle.c_rule.specs.RuleScope.{Judged, onward, provided, Env, Alias}
+use Rattle.c_rule.specs.RuleTypes.{is_function}
+use Rattle.c_rule.specs.RuleDecls.{past_declr}
+use Rattle.c_rule.specs.RuleStmts.{is_free, missing}
+use Rattle.c_rule.specs.RuleTags.{in_file}
+use Rattle.c_rule.specs.Judging.{Behind, behind, judged_declr}
+use Rattle.c_rule.specs.JudgingUnit.{judged_item}
 
 -- the outcome of one declarator of an object or a function
 abbrev pub judged_item_here : Env → Option Storage → CType → ud.Item → Judged (Behind Item)

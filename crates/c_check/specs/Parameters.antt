@@ -9,11 +9,11 @@ use Rattle.c_tree.specs.TreeDecl as ud
 use Rattle.c_tree.specs.TStmt.{Declr}
 use Rattle.c_tree.specs.TUnit.{Func, ParDecl}
 use Rattle.c_tree.specs.TypedOf.{func_of}
-use Rattle.c_tree.specs.RuleScope.{Judged, onward, Env}
-use Rattle.c_tree.specs.RuleDecls.{past_declr}
-use Rattle.c_tree.specs.RuleUnit.{as_parameter}
-use Rattle.c_scope.specs.Judging.{Behind, behind}
-use Rattle.c_scope.specs.JudgingUnit.{judged_types, judged_parameter, judged_parameters}
+use Rattle.c_rule.specs.RuleScope.{Judged, onward, Env}
+use Rattle.c_rule.specs.RuleDecls.{past_declr}
+use Rattle.c_rule.specs.RuleUnit.{as_parameter}
+use Rattle.c_rule.specs.Judging.{Behind, behind}
+use Rattle.c_rule.specs.JudgingUnit.{judged_types, judged_parameter, judged_parameters}
 
 -- the outcome of one declared parameter
 abbrev pub judged_parameter_here : Env → List Name → CType → ud.Declr → Judged (Behind Declr)

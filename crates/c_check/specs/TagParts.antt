@@ -9,12 +9,12 @@ use Rattle.c_tree.specs.TStmt.{Declr}
 use Rattle.c_tree.specs.TUnit as t
 use Rattle.c_tree.specs.TUnit.{Spec, Enumerator}
 use Rattle.c_tree.specs.TypedOf.{spec_of, declr_of, enumerator_of}
-use Rattle.c_tree.specs.RuleScope.{Judged, onward, provided, Env, Constant, past_option}
-use Rattle.c_tree.specs.RuleDecls.{past_declr}
-use Rattle.c_tree.specs.RuleStmts.{is_free}
-use Rattle.c_tree.specs.RuleTags.{in_file, member_of}
-use Rattle.c_scope.specs.Judging.{Behind, behind}
-use Rattle.c_scope.specs.JudgingUnit.{Body, judged_types, judged_member, judged_members, judged_enumerator}
+use Rattle.c_rule.specs.RuleScope.{Judged, onward, provided, Env, Constant, past_option}
+use Rattle.c_rule.specs.RuleDecls.{past_declr}
+use Rattle.c_rule.specs.RuleStmts.{is_free}
+use Rattle.c_rule.specs.RuleTags.{in_file, member_of}
+use Rattle.c_rule.specs.Judging.{Behind, behind}
+use Rattle.c_rule.specs.JudgingUnit.{Body, judged_types, judged_member, judged_members, judged_enumerator}
 
 -- the declarators of members, with the words before them
 pub record MemPart : Type 0 where

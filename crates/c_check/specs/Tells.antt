@@ -1,7 +1,7 @@
 -- What a refusal of a unit says of it.
 use Rattle.std.specs.Prelude.{⊤}
 use Rattle.c_tree.specs.TreeUnit.{Unit}
-use Rattle.c_tree.specs.RuleFailsUnit.{UnitFails}
+use Rattle.c_rule.specs.RuleFailsUnit.{UnitFails}
 use Rattle.c_scope.specs.declared.error.TypeErr.{TypeErr}
 use Rattle.c_scope.specs.declared.error.TypeErr.TheVariants as why
 

@@ -3,11 +3,11 @@ use Rattle.std.specs.Prelude.{List, map}
 use Rattle.c_type.specs.Names.{Name}
 use Rattle.c_tree.specs.TreeUnit.{Unit}
 use Rattle.c_tree.specs.TUnit.{TypedUnit}
-use Rattle.c_tree.specs.RuleNames.{tags_in, tag_names}
-use Rattle.c_tree.specs.RuleScope.{Judged, Is, onward, provided}
-use Rattle.c_tree.specs.RuleTags.{names_differ}
-use Rattle.c_tree.specs.RuleUnit.{at_first}
-use Rattle.c_scope.specs.JudgingUnit.{judged_exts}
+use Rattle.c_rule.specs.RuleNames.{tags_in, tag_names}
+use Rattle.c_rule.specs.RuleScope.{Judged, Is, onward, provided}
+use Rattle.c_rule.specs.RuleTags.{names_differ}
+use Rattle.c_rule.specs.RuleUnit.{at_first}
+use Rattle.c_rule.specs.JudgingUnit.{judged_exts}
 use Rattle.c_check.specs.declared.units.Defined.{Defined}
 
 abbrev pub names_in : Defined → List Name

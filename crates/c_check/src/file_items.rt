@@ -6,13 +6,13 @@ ghost use Rattle.c_tree.specs.declared.decl.Storage.TheVariants.{Extern};
 ghost use Rattle.c_tree.specs.TExpr as e;
 ghost use Rattle.c_tree.specs.TreeOf as u;
 ghost use Rattle.c_tree.specs.TypedOf.{declr_of, ref_of, typed_item_of};
-ghost use Rattle.c_tree.specs.RuleScope.{Alias, Function, Thing, function_ref, in_scope};
-ghost use Rattle.c_tree.specs.RuleTypes.{is_function as is_function_rule};
-ghost use Rattle.c_tree.specs.RuleStmts as s;
-ghost use Rattle.c_tree.specs.RuleUnit as r;
+ghost use Rattle.c_rule.specs.RuleScope.{Alias, Function, Thing, function_ref, in_scope};
+ghost use Rattle.c_rule.specs.RuleTypes.{is_function as is_function_rule};
+ghost use Rattle.c_rule.specs.RuleStmts as s;
+ghost use Rattle.c_rule.specs.RuleUnit as r;
 ghost use Rattle.c_block.specs.Boxed.{boxed_declr};
 ghost use Rattle.c_scope.specs.EnvOf.{env_of};
-ghost use Rattle.c_scope.specs.JudgingUnit as j;
+ghost use Rattle.c_rule.specs.JudgingUnit as j;
 ghost use Rattle.c_scope.specs.Says.{Says, SaysBehind};
 ghost use Rattle.c_check.specs.FileParts.{judged_alias_here, judged_item_here};
 

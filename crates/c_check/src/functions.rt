@@ -3,9 +3,9 @@ ghost use Rattle.std.specs.Prelude.{◌≡◌, map, IfOk};
 ghost use Rattle.c_type.specs.Of.{type_of};
 ghost use Rattle.c_tree.specs.TreeOf as u;
 ghost use Rattle.c_tree.specs.TypedOf.{declr_of, par_of, var_of};
-ghost use Rattle.c_tree.specs.RuleUnit as r;
+ghost use Rattle.c_rule.specs.RuleUnit as r;
 ghost use Rattle.c_scope.specs.EnvOf.{env_of};
-ghost use Rattle.c_scope.specs.JudgingUnit as j;
+ghost use Rattle.c_rule.specs.JudgingUnit as j;
 ghost use Rattle.c_scope.specs.Says.{Says, SaysBehind};
 ghost use Rattle.c_check.specs.Parameters.{boxed_func};
 

@@ -1,9 +1,9 @@
 // The words of a function's head, which may all be left out.
 ghost use Rattle.std.specs.Prelude.{};
 ghost use Rattle.c_tree.specs.TreeOf as u;
-ghost use Rattle.c_tree.specs.RuleNames as n;
+ghost use Rattle.c_rule.specs.RuleNames as n;
 ghost use Rattle.c_scope.specs.EnvOf.{env_of};
-ghost use Rattle.c_scope.specs.JudgingUnit as j;
+ghost use Rattle.c_rule.specs.JudgingUnit as j;
 ghost use Rattle.c_scope.specs.Says.{SaysBehind};
 ghost use Rattle.c_check.specs.Words.{typed_of};
 

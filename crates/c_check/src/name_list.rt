@@ -3,7 +3,7 @@ ghost use Rattle.std.specs.Prelude.{◌≡◌, ◌∷◌, ◌++◌, [], List, �
 ghost use Rattle.std.specs.Str.{bytes_eq};
 ghost use Rattle.indexmap.specs.IndexMap.{get_by};
 ghost use Rattle.c_check.specs.Places.{place_from};
-ghost use Rattle.c_tree.specs.RuleUnit as r;
+ghost use Rattle.c_rule.specs.RuleUnit as r;
 ghost use Rattle.c_tree.specs.TypedOf.{declr_of};
 
 use c_scope::insert_first;

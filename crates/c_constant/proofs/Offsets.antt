@@ -5,10 +5,9 @@ use Rattle.c_type.specs.declared.Member as dm
 use Rattle.c_type.specs.declared.Tag as dt
 use Rattle.c_type.specs.Names.{at_or}
 use Rattle.c_type.specs.Of.{member_of, members_of, tag_of}
-use Rattle.c_type.specs.Sizes.{no_tag}
+use Rattle.c_type.specs.Sizes.{no_tag, no_member}
 use Rattle.c_type.specs.Types.{Member, Tag, struct}
-use Rattle.c_tree.specs.Context.{no_member}
-use Rattle.c_tree.specs.RuleDecls.{member_off}
+use Rattle.c_rule.specs.RuleDecls.{member_off}
 
 members_map : (ms : List dm.Member) → members_of ms ≡ map member_of ms
 members_map [] = refl

@@ -3,7 +3,7 @@ use Rattle.std.specs.Prelude.{Option, Some, None}
 use Rattle.c_type.specs.declared.Kind.TheVariants.{Int, UInt}
 use Rattle.c_type.specs.Of.{type_of}
 use Rattle.c_type.specs.Types.{CType, num}
-use Rattle.c_tree.specs.RuleDecls as r
+use Rattle.c_rule.specs.RuleDecls as r
 use Rattle.c_constant.specs.declared.typing.ExprType.{ExprType}
 use Rattle.c_constant.specs.declared.typing.ExprType.TheVariants as t
 use Rattle.c_constant.specs.declared.spot.Spot.{Spot}

@@ -2,10 +2,9 @@
 ghost use Rattle.std.specs.Prelude.{◌≡◌, map};
 ghost use Rattle.c_type.specs.Of.{type_of as type_lem, tag_of, members_of};
 ghost use Rattle.c_type.specs.Names.{at_or};
-ghost use Rattle.c_type.specs.Sizes.{size as size_lem};
+ghost use Rattle.c_type.specs.Sizes.{size as size_lem, no_member};
 ghost use Rattle.c_type.specs.Types as t;
-ghost use Rattle.c_tree.specs.Context.{no_member};
-ghost use Rattle.c_tree.specs.RuleDecls as r;
+ghost use Rattle.c_rule.specs.RuleDecls as r;
 ghost use Rattle.c_tree.specs.TypedOf.{expr_of, ref_of};
 ghost use Rattle.c_constant.specs.Views.{told, spot_option};
 

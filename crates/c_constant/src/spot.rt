@@ -19,7 +19,7 @@ impl Spot {
     ghost use Rattle.c_type.specs.Of.{tag_of};
     ghost use Rattle.c_type.specs.Types as t;
     ghost use Rattle.c_tree.specs.Constant.{constant as constant_lem, given};
-    ghost use Rattle.c_tree.specs.RuleDecls as r;
+    ghost use Rattle.c_rule.specs.RuleDecls as r;
     ghost use Rattle.c_tree.specs.TExpr.{type_of as type_of_lem};
     ghost use Rattle.c_tree.specs.TypedOf.{expr_of};
     ghost use Rattle.c_constant.specs.Views.{spot_of, spot_option};

@@ -1,14 +1,14 @@
 -- The tokens behind an expression are those from a place on.
 use Rattle.std.proofs.Common.{◌≡◌, ℕ, ◌+◌, ◌≤◌, zero, suc, List, [], ◌∷◌, length, drop, Option, Some, None, Result, Ok, Err, IfOk, refl, ap, arith, sym, ◌∙◌, drop-drop}
 use Rattle.c_type.specs.Names.{Name}
-use Rattle.c_type.specs.Tokens.{Token}
-use Rattle.c_type.specs.Tokens as k
-use Rattle.c_tree.specs.Words.{tok, mark, assign_mark, binary_mark, step_mark, comma_mark, question, colon, open_square, close_square, open_round, close_round, dot_mark, arrow_mark}
+use Rattle.c_lex.specs.Tokens.{Token}
+use Rattle.c_lex.specs.Tokens as k
+use Rattle.c_grammar.specs.Words.{tok, mark, assign_mark, binary_mark, step_mark, comma_mark, question, colon, open_square, close_square, open_round, close_round, dot_mark, arrow_mark}
 use Rattle.c_tree.specs.TreeExpr.{Expr}
-use Rattle.c_tree.specs.WrittenType.{TypePart, word_part, tag_part, name_part, spell_part, spell_parts, spell_stars, spell_name, WrittenName}
-use Rattle.c_tree.specs.WrittenExpr.{Written}
-use Rattle.c_tree.specs.WrittenExpr as w
-use Rattle.c_tree.specs.Reads.{IsExprAt, Spells}
+use Rattle.c_grammar.specs.WrittenType.{TypePart, word_part, tag_part, name_part, spell_part, spell_parts, spell_stars, spell_name, WrittenName}
+use Rattle.c_grammar.specs.WrittenExpr.{Written}
+use Rattle.c_grammar.specs.WrittenExpr as w
+use Rattle.c_grammar.specs.Reads.{IsExprAt, Spells}
 use Rattle.c_tree.specs.declared.expr.Expr.{Expr as RustExpr}
 use Rattle.c_tree.specs.TreeOf.{expr_of}
 use Rattle.c_lex.specs.Shown.{tokens_of}

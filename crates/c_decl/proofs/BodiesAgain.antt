@@ -1,19 +1,19 @@
 -- The bodies of tags, and with them all words outside of blocks, that are spelled are read.
 use Rattle.std.proofs.Common.{◌≡◌, ℕ, ◌≤◌, zero, suc, List, [], ◌∷◌, length, map, Option, Some, None, true, false, refl, arith, ap, sym, ◌∙◌, true≢false}
 use Rattle.c_type.specs.Names.{Name, or_else, or_default}
-use Rattle.c_type.specs.Tokens.{Token}
-use Rattle.c_tree.specs.Words.{Separated, After, listed, members_of, mark, close_brace, comma_mark, semicolon, equals, spell_separated, spell_others, AreAll, AreEach}
+use Rattle.c_lex.specs.Tokens.{Token}
+use Rattle.c_grammar.specs.Words.{Separated, After, listed, members_of, mark, close_brace, comma_mark, semicolon, equals, spell_separated, spell_others, AreAll, AreEach}
 use Rattle.c_tree.specs.TreeExpr.{Expr, TypeSpec, expr_depth, deepest, optional}
 use Rattle.c_tree.specs.TreeExpr as x
 use Rattle.c_tree.specs.TreeDecl.{Types, TagDef, Mem, Mems, En, types_depth, def_depth, mem_depth, mems_depth, en_depth, declr_depth}
 use Rattle.c_tree.specs.TreeDecl as t
-use Rattle.c_tree.specs.WrittenType.{TypePart, word_part, tag_part, name_part, spelled}
-use Rattle.c_tree.specs.WrittenExpr.{Written, IsAtLevel}
-use Rattle.c_tree.specs.WrittenExpr as w
-use Rattle.c_tree.specs.WrittenDeclr.{WrittenDeclr, plain_declr, plain_if, IsDeclr, IfThere, spell_declr, spell_if}
-use Rattle.c_tree.specs.WrittenSpecs.{Parts, WrittenDef, WrittenMem, WrittenMems, WrittenEn, Value, storages, typedefs, type_parts, bodies, first_line, def_line, plain_value, plain_en, plain_body, plain_def, plain_mems, plain_mem, plain_types, first_of, is_some, is_type, is_empty, IsValue, IsEn, AreParts, IsDef, AreMems, IsMem, spell_value, spell_en, spell_specs, spell_def, spell_mems, spell_mem}
-use Rattle.c_tree.specs.WrittenSpecs as p
-use Rattle.c_tree.specs.Reads.{may_follow}
+use Rattle.c_grammar.specs.WrittenType.{TypePart, word_part, tag_part, name_part, spelled}
+use Rattle.c_grammar.specs.WrittenExpr.{Written, IsAtLevel}
+use Rattle.c_grammar.specs.WrittenExpr as w
+use Rattle.c_grammar.specs.WrittenDeclr.{WrittenDeclr, plain_declr, plain_if, IsDeclr, IfThere, spell_declr, spell_if}
+use Rattle.c_grammar.specs.WrittenSpecs.{Parts, WrittenDef, WrittenMem, WrittenMems, WrittenEn, Value, storages, typedefs, type_parts, bodies, first_line, def_line, plain_value, plain_en, plain_body, plain_def, plain_mems, plain_mem, plain_types, first_of, is_some, is_type, is_empty, IsValue, IsEn, AreParts, IsDef, AreMems, IsMem, spell_value, spell_en, spell_specs, spell_def, spell_mems, spell_mem}
+use Rattle.c_grammar.specs.WrittenSpecs as p
+use Rattle.c_grammar.specs.Reads.{may_follow}
 use Rattle.c_expr.specs.Front.{Read, eat, line_at}
 use Rattle.c_decl.specs.Separated.{separated}
 use Rattle.c_decl.specs.ReadDeclr as r

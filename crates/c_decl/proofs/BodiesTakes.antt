@@ -3,18 +3,18 @@ use Rattle.std.proofs.Common.{◌≡◌, ℕ, ◌≤◌, zero, suc, List, ◌∷
 use Rattle.c_type.specs.Names.{Name, or_default}
 use Rattle.c_type.specs.declared.TagKind.{TagKind}
 use Rattle.c_type.specs.declared.TagKind.TheVariants.{Struct, Union, Enum}
-use Rattle.c_type.specs.Tokens.{Token}
-use Rattle.c_type.specs.Tokens as k
-use Rattle.c_tree.specs.Words.{Separated, listed, mark, tok, word, tag_word, open_brace, close_brace, semicolon, equals, spell_separated, AreAll}
+use Rattle.c_lex.specs.Tokens.{Token}
+use Rattle.c_lex.specs.Tokens as k
+use Rattle.c_grammar.specs.Words.{Separated, listed, mark, tok, word, tag_word, open_brace, close_brace, semicolon, equals, spell_separated, AreAll}
 use Rattle.c_tree.specs.TreeExpr.{Expr, expr_depth}
 use Rattle.c_tree.specs.TreeExpr as x
 use Rattle.c_tree.specs.TreeDecl.{Types, TagDef, Mem, Mems, En, def_depth, mem_depth, en_depth}
 use Rattle.c_tree.specs.TreeDecl as t
-use Rattle.c_tree.specs.WrittenType.{is_typedef}
-use Rattle.c_tree.specs.WrittenDeclr.{spell_named, WrittenDeclr, plain_declr, IsDeclr, spell_declr, spell_if}
-use Rattle.c_tree.specs.WrittenSpecs.{Parts, WrittenDef, WrittenMem, WrittenMems, WrittenEn, bodies, type_parts, first_line, plain_en, plain_def, plain_mems, plain_mem, plain_types, IsDef, IsEn, AreMems, IsMem, spell_en, spell_specs, spell_def, spell_mems, spell_mem}
-use Rattle.c_tree.specs.WrittenSpecs as p
-use Rattle.c_tree.specs.Reads.{Spells}
+use Rattle.c_grammar.specs.WrittenType.{is_typedef}
+use Rattle.c_grammar.specs.WrittenDeclr.{spell_named, WrittenDeclr, plain_declr, IsDeclr, spell_declr, spell_if}
+use Rattle.c_grammar.specs.WrittenSpecs.{Parts, WrittenDef, WrittenMem, WrittenMems, WrittenEn, bodies, type_parts, first_line, plain_en, plain_def, plain_mems, plain_mem, plain_types, IsDef, IsEn, AreMems, IsMem, spell_en, spell_specs, spell_def, spell_mems, spell_mem}
+use Rattle.c_grammar.specs.WrittenSpecs as p
+use Rattle.c_grammar.specs.Reads.{Spells}
 use Rattle.c_expr.specs.Front.{Read, ◌>>=◌, eat, line_at, name_at, grown}
 use Rattle.c_decl.specs.Separated.{separated}
 use Rattle.c_decl.specs.ReadDeclr as r

@@ -4,24 +4,24 @@ use Rattle.std.proofs.lemmas.Bool.{eqb-true}
 use Rattle.c_type.specs.Names.{Name, or_default}
 use Rattle.c_type.specs.declared.TagKind.{TagKind}
 use Rattle.c_type.specs.declared.TagKind.TheVariants.{Struct, Union, Enum}
-use Rattle.c_type.specs.Tokens.{Tok, Token}
-use Rattle.c_type.specs.Tokens as k
+use Rattle.c_lex.specs.Tokens.{Tok, Token}
+use Rattle.c_lex.specs.Tokens as k
 use Rattle.c_tree.specs.declared.decl.Storage.{Storage}
-use Rattle.c_tree.specs.Words.{TypeWord, Unsigned, Char, Short, Long, Int, Void, Separated, listed, mark, tok, tag_word, type_word, register_word, open_brace, semicolon, spell_separated, spell_others, AreAll}
+use Rattle.c_grammar.specs.Words.{TypeWord, Unsigned, Char, Short, Long, Int, Void, Separated, listed, mark, tok, tag_word, type_word, register_word, open_brace, semicolon, spell_separated, spell_others, AreAll}
 use Rattle.c_tree.specs.TreeExpr.{Expr, expr_depth, deepest, optional}
 use Rattle.c_tree.specs.TreeExpr as x
 use Rattle.c_tree.specs.TreeDecl.{Types, ParDecl, LocalSpecs, LocalDecl, types_depth, declr_depth, item_depth, par_depth, local_depth}
 use Rattle.c_tree.specs.TreeDecl as t
-use Rattle.c_tree.specs.WrittenType.{TypePart, word_part, tag_part, name_part}
-use Rattle.c_tree.specs.WrittenExpr.{Written, IsAtLevel}
-use Rattle.c_tree.specs.WrittenExpr as w
-use Rattle.c_tree.specs.WrittenDeclr.{WrittenDeclr, WrittenItem, plain_declr, plain_item, IsDeclr, IsItem, spell_declr, spell_item, spell_given, spell_if}
-use Rattle.c_tree.specs.WrittenSpecs.{Parts, storages, typedefs, type_parts, bodies, first_line, plain_types, first_of, is_some, is_type, is_type_or_none, is_empty, AreTypes, spell_specs}
-use Rattle.c_tree.specs.WrittenSpecs as p
-use Rattle.c_tree.specs.WrittenDecl.{WrittenPar, LocalPart, WrittenLocal, plain_par, IsPar, spell_par, spell_register, local_storages, local_types, plain_local_specs, local_line, is_at_most_one, is_none, AreLocalSpecs, spell_local_parts, plain_local, IsLocal, spell_local}
-use Rattle.c_tree.specs.WrittenDecl as l
-use Rattle.c_tree.specs.WrittenUnit.{ArePars, spell_pars}
-use Rattle.c_tree.specs.Reads.{may_follow, begins_block, is_brace}
+use Rattle.c_grammar.specs.WrittenType.{TypePart, word_part, tag_part, name_part}
+use Rattle.c_grammar.specs.WrittenExpr.{Written, IsAtLevel}
+use Rattle.c_grammar.specs.WrittenExpr as w
+use Rattle.c_grammar.specs.WrittenDeclr.{WrittenDeclr, WrittenItem, plain_declr, plain_item, IsDeclr, IsItem, spell_declr, spell_item, spell_given, spell_if}
+use Rattle.c_grammar.specs.WrittenSpecs.{Parts, storages, typedefs, type_parts, bodies, first_line, plain_types, first_of, is_some, is_type, is_type_or_none, is_empty, AreTypes, spell_specs}
+use Rattle.c_grammar.specs.WrittenSpecs as p
+use Rattle.c_grammar.specs.WrittenDecl.{WrittenPar, LocalPart, WrittenLocal, plain_par, IsPar, spell_par, spell_register, local_storages, local_types, plain_local_specs, local_line, is_at_most_one, is_none, AreLocalSpecs, spell_local_parts, plain_local, IsLocal, spell_local}
+use Rattle.c_grammar.specs.WrittenDecl as l
+use Rattle.c_grammar.specs.WrittenUnit.{ArePars, spell_pars}
+use Rattle.c_grammar.specs.Reads.{may_follow, begins_block, is_brace}
 use Rattle.c_expr.specs.Front.{Read, eat, eat_word, line_at}
 use Rattle.c_decl.specs.Separated.{separated}
 use Rattle.c_decl.specs.ReadInit as i

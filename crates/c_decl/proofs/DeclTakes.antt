@@ -2,21 +2,21 @@
 use Rattle.std.proofs.Common.{◌≡◌, ℕ, ◌≤◌, zero, suc, List, [], ◌∷◌, length, map, Option, Some, None, Bool, true, false, nat_eq, ◌&&◌, refl, arith, ap, sym, ◌∙◌, inl, inr, true≢false}
 use Rattle.std.proofs.lemmas.Bool.{eqb-true}
 use Rattle.c_type.specs.Names.{Name, or_default}
-use Rattle.c_type.specs.Tokens.{Token}
+use Rattle.c_lex.specs.Tokens.{Token}
 use Rattle.c_tree.specs.declared.decl.Storage.{Storage}
-use Rattle.c_tree.specs.Words.{Separated, listed, mark, word, storage_word, register_word, open_brace, semicolon, spell_separated, AreAll}
+use Rattle.c_grammar.specs.Words.{Separated, listed, mark, word, storage_word, register_word, open_brace, semicolon, spell_separated, AreAll}
 use Rattle.c_tree.specs.TreeExpr.{Expr, expr_depth}
 use Rattle.c_tree.specs.TreeExpr as x
 use Rattle.c_tree.specs.TreeDecl.{Types, ParDecl, LocalSpecs, LocalDecl, par_depth, local_depth}
 use Rattle.c_tree.specs.TreeDecl as t
-use Rattle.c_tree.specs.WrittenType.{TypePart, spelled, spell_part}
-use Rattle.c_tree.specs.WrittenDeclr.{WrittenDeclr, WrittenItem, plain_declr, plain_item, IsDeclr, IsItem, spell_declr, spell_item}
-use Rattle.c_tree.specs.WrittenSpecs.{Parts, storages, typedefs, type_parts, bodies, first_line, plain_def, plain_types, first_of, is_some, is_type_or_none, AreParts, AreTypes, spell_specs}
-use Rattle.c_tree.specs.WrittenSpecs as p
-use Rattle.c_tree.specs.WrittenDecl.{WrittenPar, LocalPart, WrittenLocal, plain_par, IsPar, spell_par, spell_register, local_storages, local_types, plain_local_specs, local_line, is_at_most_one, is_none, AreLocalParts, AreLocalSpecs, spell_local_parts, plain_local, IsLocal, spell_local}
-use Rattle.c_tree.specs.WrittenDecl as l
-use Rattle.c_tree.specs.WrittenUnit.{ArePars, spell_pars}
-use Rattle.c_tree.specs.Reads.{Spells}
+use Rattle.c_grammar.specs.WrittenType.{TypePart, spelled, spell_part}
+use Rattle.c_grammar.specs.WrittenDeclr.{WrittenDeclr, WrittenItem, plain_declr, plain_item, IsDeclr, IsItem, spell_declr, spell_item}
+use Rattle.c_grammar.specs.WrittenSpecs.{Parts, storages, typedefs, type_parts, bodies, first_line, plain_def, plain_types, first_of, is_some, is_type_or_none, AreParts, AreTypes, spell_specs}
+use Rattle.c_grammar.specs.WrittenSpecs as p
+use Rattle.c_grammar.specs.WrittenDecl.{WrittenPar, LocalPart, WrittenLocal, plain_par, IsPar, spell_par, spell_register, local_storages, local_types, plain_local_specs, local_line, is_at_most_one, is_none, AreLocalParts, AreLocalSpecs, spell_local_parts, plain_local, IsLocal, spell_local}
+use Rattle.c_grammar.specs.WrittenDecl as l
+use Rattle.c_grammar.specs.WrittenUnit.{ArePars, spell_pars}
+use Rattle.c_grammar.specs.Reads.{Spells}
 use Rattle.c_expr.specs.Front.{Read, ◌>>=◌, eat, eat_word, line_at, grown}
 use Rattle.c_decl.specs.Separated.{separated}
 use Rattle.c_decl.specs.ReadDeclr as r

@@ -1,17 +1,17 @@
 -- A declarator that is spelled is read.
 use Rattle.std.proofs.Common.{◌≡◌, ℕ, ◌+◌, ◌-◌, ◌<◌, ◌≤◌, zero, suc, List, ◌∷◌, length, Option, Some, None, Bool, true, false, refl, arith, sym, ◌∙◌, true≢false}
 use Rattle.c_type.specs.Names.{Name}
-use Rattle.c_type.specs.Tokens.{Token}
-use Rattle.c_tree.specs.Words.{Separated, mark, open_round, close_round, open_square, close_square, star, spell_separated, AreAll}
+use Rattle.c_lex.specs.Tokens.{Token}
+use Rattle.c_grammar.specs.Words.{Separated, mark, open_round, close_round, open_square, close_square, star, spell_separated, AreAll}
 use Rattle.c_tree.specs.TreeExpr.{Expr, expr_depth, optional}
 use Rattle.c_tree.specs.TreeDecl.{Declr, declr_depth}
 use Rattle.c_tree.specs.TreeDecl as t
-use Rattle.c_tree.specs.WrittenType.{is_typedef}
-use Rattle.c_tree.specs.WrittenExpr.{Written, IsAtLevel}
-use Rattle.c_tree.specs.WrittenExpr as w
-use Rattle.c_tree.specs.WrittenDeclr.{Named, named, spell_named, WrittenDeclr, declr_line, plain_declr, plain_if, plain_names, is_pointer, is_bare, IfThere, Chosen, IsDeclr, IsHead, IsParameter, spell_declr, spell_if}
-use Rattle.c_tree.specs.WrittenDeclr as d
-use Rattle.c_tree.specs.Reads.{may_follow}
+use Rattle.c_grammar.specs.WrittenType.{is_typedef}
+use Rattle.c_grammar.specs.WrittenExpr.{Written, IsAtLevel}
+use Rattle.c_grammar.specs.WrittenExpr as w
+use Rattle.c_grammar.specs.WrittenDeclr.{Named, named, spell_named, WrittenDeclr, declr_line, plain_declr, plain_if, plain_names, is_pointer, is_bare, IfThere, Chosen, IsDeclr, IsHead, IsParameter, spell_declr, spell_if}
+use Rattle.c_grammar.specs.WrittenDeclr as d
+use Rattle.c_grammar.specs.Reads.{may_follow}
 use Rattle.c_expr.specs.Front.{Read, ◌>>=◌, eat, line_at, name_at}
 use Rattle.c_decl.specs.ReadDeclr as r
 use Rattle.c_expr.proofs.Fronts.{grown_again, no_mark, expr_starts, expr_longer}

@@ -6,7 +6,7 @@ use Rattle.c_tree.specs.declared.expr.Expr.{Expr, Call}
 use Rattle.c_tree.specs.TreeExpr as t
 use Rattle.c_tree.specs.TreeExpr.{expr_depth, exprs_depth}
 use Rattle.c_tree.specs.TreeDecl as td
-use Rattle.c_tree.specs.TreeDecl.{declr_depth}
+use Rattle.c_tree.specs.TreeDecl.{declr_depth, init_depth, inits_depth, def_depth, mems_depth}
 use Rattle.c_tree.specs.TreeOf.{expr_of, exprs_from}
 use Rattle.c_tree.specs.declared.decl.Init.{Init, Group}
 use Rattle.c_tree.specs.declared.decl.Mem.{Mem}
@@ -14,7 +14,6 @@ use Rattle.c_tree.specs.declared.decl.TagDef as g
 use Rattle.c_tree.specs.declared.decl.TagDef.{TagDef, Struct, Union}
 use Rattle.c_type.specs.Names.{Name}
 use Rattle.c_tree.specs.TreeOf.{init_of, inits_from, declr_of, types_of, def_of, mems_of, mems_from}
-use Rattle.c_tree.specs.TreeDecl.{init_depth, inits_depth, def_depth, mems_depth}
 use Rattle.c_tree.proofs.Of.{expr_of-Call, init_of-Group, def_of-Struct}
 use Rattle.c_decl.proofs.DeclrAgain.{declr_deep}
 

@@ -2,13 +2,13 @@
 use Rattle.std.proofs.Common.{◌≡◌, ℕ, ◌+◌, ◌≤◌, List, [], ◌∷◌, length, Option, Some, None, Bool, true, false, nat_eq, nat_lt, ◌||◌, ◌&&◌, refl, arith, sym, ◌⊎◌, inl, inr, true≢false, ap, ◌∙◌}
 use Rattle.std.proofs.lemmas.Bool.{eqb-true, lt-ltb}
 use Rattle.c_type.specs.Names.{Name, pick}
-use Rattle.c_type.specs.Tokens.{Tok, Token}
-use Rattle.c_type.specs.Tokens as k
-use Rattle.c_tree.specs.Words.{tok, mark, assign_mark, binary_mark, step_mark, comma_mark}
+use Rattle.c_lex.specs.Tokens.{Tok, Token}
+use Rattle.c_lex.specs.Tokens as k
+use Rattle.c_grammar.specs.Words.{tok, mark, assign_mark, binary_mark, step_mark, comma_mark}
 use Rattle.c_tree.specs.TreeExpr.{Expr, expr_depth}
-use Rattle.c_tree.specs.WrittenExpr.{Written, IsAtLevel}
-use Rattle.c_tree.specs.WrittenExpr as w
-use Rattle.c_tree.specs.Reads.{most, may_follow, Spells}
+use Rattle.c_grammar.specs.WrittenExpr.{Written, IsAtLevel}
+use Rattle.c_grammar.specs.WrittenExpr as w
+use Rattle.c_grammar.specs.Reads.{most, may_follow, Spells}
 use Rattle.c_expr.specs.Ends.{Ends, nest, nests, nest_others}
 use Rattle.c_expr.proofs.Fronts.{name_longer}
 use Rattle.c_expr.proofs.Joined.{is_read, is_spelled}

@@ -1,11 +1,11 @@
 -- One turn of the loop over the members of a group.
 use Rattle.std.proofs.Common.{◌≡◌, ℕ, ◌<◌, ◌≤◌, ◌-◌, ◌+◌, suc, List, [], ◌∷◌, ◌++◌, map, length, Option, Some, None, Result, Err, refl, ap, subst, ◌∙◌, Vec, Global}
 use Rattle.c_type.specs.Names.{Name}
-use Rattle.c_type.specs.Tokens.{Token}
-use Rattle.c_tree.specs.Words.{comma_mark, close_brace}
+use Rattle.c_lex.specs.Tokens.{Token}
+use Rattle.c_grammar.specs.Words.{comma_mark, close_brace}
 use Rattle.c_tree.specs.TreeExpr.{Expr}
 use Rattle.c_tree.specs.TreeDecl.{Init, Inits, no_inits, more_inits, group, init_depth}
-use Rattle.c_tree.specs.Reads.{most}
+use Rattle.c_grammar.specs.Reads.{most}
 use Rattle.c_tree.proofs.Of.{init_of-Group}
 use Rattle.c_decl.specs.declared.reader.Reader.{Reader}
 use Rattle.c_tree.specs.declared.decl.Init.{Init as RustInit, Group}

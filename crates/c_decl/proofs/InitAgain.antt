@@ -1,16 +1,16 @@
 -- An initialiser, and a declarator with its initialiser, that are spelled are read.
 use Rattle.std.proofs.Common.{◌≡◌, ℕ, ◌+◌, ◌<◌, ◌≤◌, max, zero, suc, List, ◌∷◌, length, Option, Some, None, true, refl, arith}
 use Rattle.c_type.specs.Names.{Name}
-use Rattle.c_type.specs.Tokens.{Token}
-use Rattle.c_tree.specs.Words.{mark, open_brace, close_brace, equals}
+use Rattle.c_lex.specs.Tokens.{Token}
+use Rattle.c_grammar.specs.Words.{mark, open_brace, close_brace, equals}
 use Rattle.c_tree.specs.TreeExpr.{Expr, expr_depth}
 use Rattle.c_tree.specs.TreeDecl.{Init, Inits, Item, init_depth, inits_depth, item_depth, declr_depth}
 use Rattle.c_tree.specs.TreeDecl as t
-use Rattle.c_tree.specs.WrittenExpr.{Written, IsAtLevel}
-use Rattle.c_tree.specs.WrittenExpr as w
-use Rattle.c_tree.specs.WrittenDeclr.{WrittenInit, WrittenInits, WrittenItem, Given, plain_declr, plain_init, plain_inits, plain_item, plain_given, plain_if, IsDeclr, IsInit, AreInits, IsItem, IsGiven, IfThere, spell_declr, spell_init, spell_inits, spell_comma, spell_item, spell_given, spell_if}
-use Rattle.c_tree.specs.WrittenDeclr as d
-use Rattle.c_tree.specs.Reads.{may_follow}
+use Rattle.c_grammar.specs.WrittenExpr.{Written, IsAtLevel}
+use Rattle.c_grammar.specs.WrittenExpr as w
+use Rattle.c_grammar.specs.WrittenDeclr.{WrittenInit, WrittenInits, WrittenItem, Given, plain_declr, plain_init, plain_inits, plain_item, plain_given, plain_if, IsDeclr, IsInit, AreInits, IsItem, IsGiven, IfThere, spell_declr, spell_init, spell_inits, spell_comma, spell_item, spell_given, spell_if}
+use Rattle.c_grammar.specs.WrittenDeclr as d
+use Rattle.c_grammar.specs.Reads.{may_follow}
 use Rattle.c_expr.specs.Front.{Read, eat}
 use Rattle.c_decl.specs.ReadInit as i
 use Rattle.c_expr.proofs.Fronts.{grown_again, no_mark, expr_starts, expr_longer}

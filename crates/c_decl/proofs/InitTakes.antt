@@ -1,14 +1,14 @@
 -- What is read of an initialiser or an item is spelled so.
 use Rattle.std.proofs.Common.{◌≡◌, ℕ, ◌≤◌, zero, suc, List, ◌∷◌, length, Option, Some, None, refl, arith, ap, sym, ◌∙◌}
 use Rattle.c_type.specs.Names.{Name}
-use Rattle.c_type.specs.Tokens.{Token}
-use Rattle.c_tree.specs.Words.{mark, open_brace, close_brace, comma_mark, equals}
+use Rattle.c_lex.specs.Tokens.{Token}
+use Rattle.c_grammar.specs.Words.{mark, open_brace, close_brace, comma_mark, equals}
 use Rattle.c_tree.specs.TreeExpr.{Expr, expr_depth}
 use Rattle.c_tree.specs.TreeDecl.{Init, Inits, Item, init_depth, item_depth}
 use Rattle.c_tree.specs.TreeDecl as t
-use Rattle.c_tree.specs.WrittenDeclr.{WrittenInit, WrittenInits, WrittenItem, Given, plain_declr, plain_init, plain_inits, plain_item, plain_given, plain_if, IsDeclr, IsInit, AreInits, IsItem, IsGiven, IfThere, spell_declr, spell_init, spell_inits, spell_comma, spell_item, spell_given, spell_if}
-use Rattle.c_tree.specs.WrittenDeclr as d
-use Rattle.c_tree.specs.Reads.{Spells}
+use Rattle.c_grammar.specs.WrittenDeclr.{WrittenInit, WrittenInits, WrittenItem, Given, plain_declr, plain_init, plain_inits, plain_item, plain_given, plain_if, IsDeclr, IsInit, AreInits, IsItem, IsGiven, IfThere, spell_declr, spell_init, spell_inits, spell_comma, spell_item, spell_given, spell_if}
+use Rattle.c_grammar.specs.WrittenDeclr as d
+use Rattle.c_grammar.specs.Reads.{Spells}
 use Rattle.c_expr.specs.Front.{Read, ◌>>=◌, eat, line_at, grown}
 use Rattle.c_decl.specs.ReadDeclr as r
 use Rattle.c_decl.specs.ReadInit as i

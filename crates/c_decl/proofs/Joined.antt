@@ -1,5 +1,5 @@
 -- The laws of reading declarations.
-use Rattle.c_tree.specs.Reads.{most}
+use Rattle.c_grammar.specs.Reads.{most}
 use Rattle.c_decl.specs.Expression.{expression}
 use Rattle.c_decl.specs.Laws.{IsWholeRead, IsHeadRead, IsLocalRead}
 use Rattle.c_decl.proofs.Expressions.{expr_again}

@@ -1,6 +1,6 @@
 -- What a loop has taken and what it has left is the whole.
 use Rattle.std.proofs.Common.{◌≡◌, ℕ, ◌+◌, ◌-◌, ◌<◌, ◌≤◌, suc, List, [], ◌∷◌, ◌++◌, Option, Some, None, Result, Err, refl, ap, arith, sym, ◌∙◌}
-use Rattle.c_type.specs.Tokens.{Token}
+use Rattle.c_lex.specs.Tokens.{Token}
 use Rattle.c_expr.specs.Front.{Read, ◌>>=◌}
 use Rattle.c_expr.specs.declared.error.ParseErr.{ParseErr}
 use Rattle.c_expr.specs.declared.error.ParseErr.TheVariants.{TooDeep, NotC, Memory}

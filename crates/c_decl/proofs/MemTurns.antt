@@ -1,11 +1,11 @@
 -- One turn of the loop over the declarations of members.
 use Rattle.std.proofs.Common.{◌≡◌, ℕ, ◌<◌, ◌≤◌, ◌-◌, ◌+◌, suc, List, [], ◌∷◌, ◌++◌, map, Option, Some, None, Result, Err, refl, ap, subst, ◌∙◌, Vec, Global}
 use Rattle.c_type.specs.Names.{Name}
-use Rattle.c_type.specs.Tokens.{Token}
-use Rattle.c_tree.specs.Words.{close_brace}
+use Rattle.c_lex.specs.Tokens.{Token}
+use Rattle.c_grammar.specs.Words.{close_brace}
 use Rattle.c_tree.specs.TreeExpr.{Expr}
 use Rattle.c_tree.specs.TreeDecl.{Mem, Mems, no_mems, more_mems, struct, def_depth}
-use Rattle.c_tree.specs.Reads.{most}
+use Rattle.c_grammar.specs.Reads.{most}
 use Rattle.c_tree.specs.declared.decl.Mem.{Mem as RustMem}
 use Rattle.c_tree.specs.declared.decl.TagDef.{TagDef as RustDef, Struct}
 use Rattle.c_tree.specs.TreeOf.{mem_of, mems_from, def_of}

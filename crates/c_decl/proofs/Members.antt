@@ -1,7 +1,7 @@
 -- One turn of a loop over members with commas between them.
 use Rattle.std.proofs.Common.{◌≡◌, ℕ, ◌<◌, ◌≤◌, ◌-◌, ◌+◌, suc, List, [], ◌∷◌, ◌++◌, Some, None, Result, Err, refl, ap, ◌∙◌}
-use Rattle.c_type.specs.Tokens.{Token}
-use Rattle.c_tree.specs.Words.{comma_mark}
+use Rattle.c_lex.specs.Tokens.{Token}
+use Rattle.c_grammar.specs.Words.{comma_mark}
 use Rattle.c_expr.specs.Front.{Read, ◌>>=◌, eat}
 use Rattle.c_expr.specs.declared.error.ParseErr.{ParseErr}
 use Rattle.c_decl.specs.Answers.{Refuses, Gives}

@@ -1,25 +1,25 @@
 -- Declarations outside of blocks, and the heads of functions, that are spelled are read.
 use Rattle.std.proofs.Common.{◌≡◌, ℕ, ◌<◌, ◌≤◌, zero, suc, List, [], ◌∷◌, length, map, Option, Some, None, Bool, true, false, nat_eq, ◌||◌, refl, arith, ap, sym, true≢false}
 use Rattle.c_type.specs.Names.{Name}
-use Rattle.c_type.specs.Tokens.{Token}
+use Rattle.c_lex.specs.Tokens.{Token}
 use Rattle.c_tree.specs.declared.decl.Storage.{Storage}
-use Rattle.c_tree.specs.Words.{Separated, After, mark, open_square, open_round, semicolon, star, spell_separated, spell_others, AreAll}
+use Rattle.c_grammar.specs.Words.{Separated, After, mark, open_square, open_round, semicolon, star, spell_separated, spell_others, AreAll}
 use Rattle.c_tree.specs.TreeExpr.{Expr, expr_depth, optional}
 use Rattle.c_tree.specs.TreeDecl.{TagDef, file_specs_depth}
 use Rattle.c_tree.specs.TreeUnit.{ext_depth, head_depth}
-use Rattle.c_tree.specs.WrittenType.{TypePart, word_part, tag_part, name_part}
-use Rattle.c_tree.specs.WrittenExpr.{Written, IsAtLevel}
-use Rattle.c_tree.specs.WrittenExpr as w
-use Rattle.c_tree.specs.WrittenDeclr.{WrittenDeclr, WrittenItem, Given, declr_line, plain_declr, plain_item, is_bare, IsDeclr, IsHead, IsItem, IfThere, Chosen, IsParameter, Named, is_pointer, spell_declr, spell_item, spell_given, spell_if}
-use Rattle.c_tree.specs.WrittenDeclr as d
-use Rattle.c_tree.specs.WrittenSpecs.{Parts, WrittenDef, storages, typedefs, type_parts, bodies, first_line, plain_def, plain_types, plain_specs, first_of, is_type_or_none, is_empty, AreParts, AreSpecs, AreTypedef, spell_specs}
-use Rattle.c_tree.specs.WrittenSpecs as p
-use Rattle.c_tree.specs.WrittenDecl.{WrittenTag, WrittenPar, plain_tag, IsTag, spell_tag, spell_par, spell_register}
-use Rattle.c_tree.specs.WrittenDecl as g
-use Rattle.c_tree.specs.WrittenUnit.{WrittenExt, WrittenHead, plain_ext, plain_head, specs_or_none, head_line, IsExt, IsFuncHead, AreHeadSpecs, ArePars, spell_ext, spell_head, spell_pars}
-use Rattle.c_tree.specs.WrittenStmt.{WrittenBlock, spell_block}
-use Rattle.c_tree.specs.WrittenUnit as u
-use Rattle.c_tree.specs.Reads.{may_follow, begins_block, is_declaration}
+use Rattle.c_grammar.specs.WrittenType.{TypePart, word_part, tag_part, name_part}
+use Rattle.c_grammar.specs.WrittenExpr.{Written, IsAtLevel}
+use Rattle.c_grammar.specs.WrittenExpr as w
+use Rattle.c_grammar.specs.WrittenDeclr.{WrittenDeclr, WrittenItem, Given, declr_line, plain_declr, plain_item, is_bare, IsDeclr, IsHead, IsItem, IfThere, Chosen, IsParameter, Named, is_pointer, spell_declr, spell_item, spell_given, spell_if}
+use Rattle.c_grammar.specs.WrittenDeclr as d
+use Rattle.c_grammar.specs.WrittenSpecs.{Parts, WrittenDef, storages, typedefs, type_parts, bodies, first_line, plain_def, plain_types, plain_specs, first_of, is_type_or_none, is_empty, AreParts, AreSpecs, AreTypedef, spell_specs}
+use Rattle.c_grammar.specs.WrittenSpecs as p
+use Rattle.c_grammar.specs.WrittenDecl.{WrittenTag, WrittenPar, plain_tag, IsTag, spell_tag, spell_par, spell_register}
+use Rattle.c_grammar.specs.WrittenDecl as g
+use Rattle.c_grammar.specs.WrittenUnit.{WrittenExt, WrittenHead, plain_ext, plain_head, specs_or_none, head_line, IsExt, IsFuncHead, AreHeadSpecs, ArePars, spell_ext, spell_head, spell_pars}
+use Rattle.c_grammar.specs.WrittenStmt.{WrittenBlock, spell_block}
+use Rattle.c_grammar.specs.WrittenUnit as u
+use Rattle.c_grammar.specs.Reads.{may_follow, begins_block, is_declaration}
 use Rattle.c_expr.specs.Front.{Read, eat, line_at}
 use Rattle.c_decl.specs.ReadDecl as e
 use Rattle.c_decl.specs.Named as named

@@ -3,23 +3,23 @@ use Rattle.std.proofs.Common.{◌≡◌, ℕ, ◌≤◌, suc, List, [], ◌∷�
 use Rattle.std.proofs.lemmas.Bool.{eqb-true}
 use Rattle.c_type.specs.Names.{Name, pick}
 use Rattle.c_type.specs.declared.TagKind.{TagKind}
-use Rattle.c_type.specs.Tokens.{Token}
-use Rattle.c_tree.specs.Words.{TypeWord, Separated, listed, open_brace, semicolon, spell_separated, AreAll}
+use Rattle.c_lex.specs.Tokens.{Token}
+use Rattle.c_grammar.specs.Words.{TypeWord, Separated, listed, open_brace, semicolon, spell_separated, AreAll}
 use Rattle.c_tree.specs.TreeExpr.{Expr, expr_depth}
 use Rattle.c_tree.specs.TreeDecl.{Types, TagDef, TagSpec, FileSpecs, Declr, declr_depth}
 use Rattle.c_tree.specs.TreeDecl as t
 use Rattle.c_tree.specs.TreeUnit.{Ext, FuncHead, ext_depth, head_depth}
 use Rattle.c_tree.specs.TreeUnit as u
-use Rattle.c_tree.specs.WrittenType.{TypePart, word_part, tag_part, name_part}
-use Rattle.c_tree.specs.WrittenDeclr.{WrittenDeclr, plain_declr, plain_item, is_bare, is_pointer, IsDeclr, IsHead, spell_declr, spell_item, Chosen, IfThere, Named, IsParameter}
-use Rattle.c_tree.specs.WrittenDeclr as d
-use Rattle.c_tree.specs.WrittenSpecs.{Parts, storages, typedefs, type_parts, bodies, first_line, plain_def, plain_types, plain_specs, first_of, is_file_storage, is_type_or_none, is_empty, AreParts, AreSpecs, AreTypedef, spell_specs}
-use Rattle.c_tree.specs.WrittenSpecs as p
-use Rattle.c_tree.specs.WrittenDecl.{WrittenTag, plain_par, plain_tag, IsTag, tag_line, spell_tag}
-use Rattle.c_tree.specs.WrittenDecl as g
-use Rattle.c_tree.specs.WrittenUnit.{WrittenExt, WrittenHead, plain_ext, plain_head, specs_or_none, head_line, IsExt, IsFuncHead, AreHeadSpecs, spell_ext, spell_head, spell_pars}
-use Rattle.c_tree.specs.WrittenUnit as n
-use Rattle.c_tree.specs.Reads.{Spells, is_declaration}
+use Rattle.c_grammar.specs.WrittenType.{TypePart, word_part, tag_part, name_part}
+use Rattle.c_grammar.specs.WrittenDeclr.{WrittenDeclr, plain_declr, plain_item, is_bare, is_pointer, IsDeclr, IsHead, spell_declr, spell_item, Chosen, IfThere, Named, IsParameter}
+use Rattle.c_grammar.specs.WrittenDeclr as d
+use Rattle.c_grammar.specs.WrittenSpecs.{Parts, storages, typedefs, type_parts, bodies, first_line, plain_def, plain_types, plain_specs, first_of, is_file_storage, is_type_or_none, is_empty, AreParts, AreSpecs, AreTypedef, spell_specs}
+use Rattle.c_grammar.specs.WrittenSpecs as p
+use Rattle.c_grammar.specs.WrittenDecl.{WrittenTag, plain_par, plain_tag, IsTag, tag_line, spell_tag}
+use Rattle.c_grammar.specs.WrittenDecl as g
+use Rattle.c_grammar.specs.WrittenUnit.{WrittenExt, WrittenHead, plain_ext, plain_head, specs_or_none, head_line, IsExt, IsFuncHead, AreHeadSpecs, spell_ext, spell_head, spell_pars}
+use Rattle.c_grammar.specs.WrittenUnit as n
+use Rattle.c_grammar.specs.Reads.{Spells, is_declaration}
 use Rattle.c_expr.specs.Front.{Read, ◌>>=◌, eat, line_at, grown}
 use Rattle.c_decl.specs.Separated.{separated}
 use Rattle.c_decl.specs.ReadDeclr as r

@@ -1,8 +1,8 @@
 -- One turn of the loop over the declarations of parameters.
 use Rattle.std.proofs.Common.{◌≡◌, ℕ, ◌<◌, ◌≤◌, ◌-◌, ◌+◌, suc, List, [], ◌∷◌, ◌++◌, Some, None, Result, Err, refl, ap, ◌∙◌}
 use Rattle.c_type.specs.Names.{Name}
-use Rattle.c_type.specs.Tokens.{Token}
-use Rattle.c_tree.specs.Words.{open_brace}
+use Rattle.c_lex.specs.Tokens.{Token}
+use Rattle.c_grammar.specs.Words.{open_brace}
 use Rattle.c_tree.specs.TreeExpr.{Expr}
 use Rattle.c_tree.specs.TreeDecl.{ParDecl}
 use Rattle.c_expr.specs.Front.{Read, ◌>>=◌, eat}

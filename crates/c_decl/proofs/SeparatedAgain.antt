@@ -1,7 +1,7 @@
 -- Members with commas between them that are spelled are read.
 use Rattle.std.proofs.Common.{◌≡◌, ℕ, ◌+◌, ◌<◌, ◌≤◌, zero, suc, List, [], ◌∷◌, length, Some, None, refl, arith}
-use Rattle.c_type.specs.Tokens.{Token}
-use Rattle.c_tree.specs.Words.{After, members_of, mark, comma_mark, spell_others, AreEach}
+use Rattle.c_lex.specs.Tokens.{Token}
+use Rattle.c_grammar.specs.Words.{After, members_of, mark, comma_mark, spell_others, AreEach}
 use Rattle.c_expr.specs.Front.{Read, eat}
 use Rattle.c_decl.specs.Separated.{separated}
 

@@ -1,8 +1,8 @@
 -- What is read of members with commas between them is spelled so.
 use Rattle.std.proofs.Common.{◌≡◌, ℕ, ◌≤◌, zero, suc, List, [], ◌∷◌, Option, Some, None, nat_lt, refl, ap, ◌∙◌, inl, inr}
 use Rattle.std.proofs.lemmas.Bool.{ltb-false}
-use Rattle.c_type.specs.Tokens.{Token}
-use Rattle.c_tree.specs.Words.{Separated, listed, mark, comma_mark, AreAll, spell_separated}
+use Rattle.c_lex.specs.Tokens.{Token}
+use Rattle.c_grammar.specs.Words.{Separated, listed, mark, comma_mark, AreAll, spell_separated}
 use Rattle.c_expr.specs.Front.{Read, eat, grown}
 use Rattle.c_expr.proofs.Taken.{some_is, bind_some, chosen, eat_takes}
 use Rattle.c_decl.specs.Separated.{separated, separated_by}

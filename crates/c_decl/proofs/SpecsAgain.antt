@@ -3,20 +3,20 @@ use Rattle.std.proofs.Common.{◌≡◌, ℕ, ◌+◌, ◌<◌, ◌≤◌, max, 
 use Rattle.c_type.specs.Names.{Name, or_else}
 use Rattle.c_type.specs.declared.TagKind.{TagKind}
 use Rattle.c_type.specs.declared.TagKind.TheVariants.{Struct, Union, Enum}
-use Rattle.c_type.specs.Tokens.{Token}
+use Rattle.c_lex.specs.Tokens.{Token}
 use Rattle.c_tree.specs.declared.decl.Storage.{Storage}
 use Rattle.c_tree.specs.declared.decl.Storage.TheVariants.{Auto, Register, Static, Extern}
-use Rattle.c_tree.specs.Words.{TypeWord, Unsigned, Char, Short, Long, Int, Void, Separated, mark, storage_word, tag_word, type_word, open_brace, close_brace, semicolon, spell_separated, spell_others}
+use Rattle.c_grammar.specs.Words.{TypeWord, Unsigned, Char, Short, Long, Int, Void, Separated, mark, storage_word, tag_word, type_word, open_brace, close_brace, semicolon, spell_separated, spell_others}
 use Rattle.c_tree.specs.TreeExpr.{optional}
 use Rattle.c_tree.specs.TreeDecl.{Types, TagDef, Mem, Mems, En, Declr, types_depth, def_depth, mem_depth, mems_depth, en_depth, declr_depth}
 use Rattle.c_tree.specs.TreeDecl as t
-use Rattle.c_tree.specs.WrittenType.{TypePart, word_part, tag_part, name_part, spelled, has_spelling}
-use Rattle.c_tree.specs.WrittenDeclr.{Named, named, spell_named, WrittenDeclr, plain_declr, plain_if, IsDeclr, IfThere, spell_declr, spell_if}
-use Rattle.c_tree.specs.WrittenDeclr as d
-use Rattle.c_tree.specs.WrittenSpecs.{Parts, WrittenDef, WrittenMem, WrittenMems, WrittenEn, Value, storages, typedefs, type_parts, bodies, first_line, def_line, plain_value, plain_en, plain_body, plain_def, plain_mems, plain_mem, plain_types, first_of, is_some, is_type, IsValue, IsEn, AreParts, IsDef, AreMems, IsMem, spell_value, spell_en, spell_specs, spell_def, spell_mems, spell_mem}
-use Rattle.c_tree.specs.WrittenSpecs as p
-use Rattle.c_tree.specs.WrittenDecl.{LocalPart, local_storages, local_types, AreLocalParts, spell_local_parts}
-use Rattle.c_tree.specs.WrittenDecl as l
+use Rattle.c_grammar.specs.WrittenType.{TypePart, word_part, tag_part, name_part, spelled, has_spelling}
+use Rattle.c_grammar.specs.WrittenDeclr.{Named, named, spell_named, WrittenDeclr, plain_declr, plain_if, IsDeclr, IfThere, spell_declr, spell_if}
+use Rattle.c_grammar.specs.WrittenDeclr as d
+use Rattle.c_grammar.specs.WrittenSpecs.{Parts, WrittenDef, WrittenMem, WrittenMems, WrittenEn, Value, storages, typedefs, type_parts, bodies, first_line, def_line, plain_value, plain_en, plain_body, plain_def, plain_mems, plain_mem, plain_types, first_of, is_some, is_type, IsValue, IsEn, AreParts, IsDef, AreMems, IsMem, spell_value, spell_en, spell_specs, spell_def, spell_mems, spell_mem}
+use Rattle.c_grammar.specs.WrittenSpecs as p
+use Rattle.c_grammar.specs.WrittenDecl.{LocalPart, local_storages, local_types, AreLocalParts, spell_local_parts}
+use Rattle.c_grammar.specs.WrittenDecl as l
 use Rattle.c_expr.specs.Front.{Read, ◌>>=◌, eat, line_at}
 use Rattle.c_decl.specs.ReadSpecs.{Found, nothing, Start, word_start, start_at, words, no_body, types_found, no_storage, only_types, en, en_by, mem, mem_by, mems, body_by, file_words}
 use Rattle.c_decl.specs.ReadSpecs as s

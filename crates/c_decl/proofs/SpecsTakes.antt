@@ -3,18 +3,18 @@ use Rattle.std.proofs.Common.{◌≡◌, ℕ, zero, suc, List, [], ◌∷◌, le
 use Rattle.std.proofs.lemmas.Bool.{eqb-true}
 use Rattle.c_type.specs.Names.{Name, pick, or_default}
 use Rattle.c_type.specs.declared.TagKind.{TagKind}
-use Rattle.c_type.specs.Tokens.{Tok, Token}
-use Rattle.c_type.specs.Tokens as k
+use Rattle.c_lex.specs.Tokens.{Tok, Token}
+use Rattle.c_lex.specs.Tokens as k
 use Rattle.c_tree.specs.declared.decl.Storage.{Storage}
-use Rattle.c_tree.specs.Words.{mark, tok, word, storage_word, tag_word, type_word, typedef_word, open_brace}
+use Rattle.c_grammar.specs.Words.{mark, tok, word, storage_word, tag_word, type_word, typedef_word, open_brace}
 use Rattle.c_tree.specs.TreeExpr.{Expr, expr_depth}
 use Rattle.c_tree.specs.TreeExpr as x
 use Rattle.c_tree.specs.TreeDecl.{Types, TagDef, Mem, Mems, En, def_depth, mem_depth, en_depth}
 use Rattle.c_tree.specs.TreeDecl as t
-use Rattle.c_tree.specs.WrittenType.{word_part, tag_part, name_part, is_typedef, has_spelling}
-use Rattle.c_tree.specs.WrittenDeclr.{Named, named, spell_named, plain_if, spell_if}
-use Rattle.c_tree.specs.WrittenSpecs.{Part, Parts, WrittenDef, WrittenMem, WrittenMems, WrittenEn, Value, storages, typedefs, type_parts, bodies, first_line, plain_value, plain_en, plain_def, plain_mems, plain_mem, plain_types, is_type, IsValue, IsEn, AreParts, IsDef, AreMems, IsMem, spell_value, spell_en, spell_specs, spell_def, spell_mems, spell_mem}
-use Rattle.c_tree.specs.WrittenSpecs as p
+use Rattle.c_grammar.specs.WrittenType.{word_part, tag_part, name_part, is_typedef, has_spelling}
+use Rattle.c_grammar.specs.WrittenDeclr.{Named, named, spell_named, plain_if, spell_if}
+use Rattle.c_grammar.specs.WrittenSpecs.{Part, Parts, WrittenDef, WrittenMem, WrittenMems, WrittenEn, Value, storages, typedefs, type_parts, bodies, first_line, plain_value, plain_en, plain_def, plain_mems, plain_mem, plain_types, is_type, IsValue, IsEn, AreParts, IsDef, AreMems, IsMem, spell_value, spell_en, spell_specs, spell_def, spell_mems, spell_mem}
+use Rattle.c_grammar.specs.WrittenSpecs as p
 use Rattle.c_expr.specs.Front.{Read, eat, line_at, any_name}
 use Rattle.c_decl.specs.ReadSpecs.{Found, nothing, Start, Word, with_word, word_start, start_of, start_at, behind, words, no_body, no_storage, only_types}
 use Rattle.c_decl.specs.ReadSpecs as s

@@ -7,7 +7,7 @@ use Rattle.std.specs.List.{HoldsAt, drop-map}
 use Rattle.std.proofs.lemmas.List.{length-map}
 use Rattle.c_lex.specs.declared.Token.{Token}
 use Rattle.c_lex.specs.Shown.{token_of, tokens_of}
-use Rattle.c_type.specs.Tokens as k
+use Rattle.c_lex.specs.Tokens as k
 use Rattle.c_expr.specs.Front.{eat}
 use Rattle.c_decl.specs.Answers.{Stands, rest}
 use Rattle.c_decl.specs.declared.reader.Reader.{Reader}

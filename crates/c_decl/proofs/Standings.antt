@@ -1,20 +1,20 @@
 -- What is read at a place stands there, and where nothing is read nothing stands.
 use Rattle.std.proofs.Common.{◌≡◌, ◌≤◌, ℕ, List, length, drop, Some, None, Result, Ok, Err, IfOk, refl, ap, subst, arith, sym, ◌∙◌, true}
 use Rattle.c_type.specs.Names.{Name}
-use Rattle.c_type.specs.Tokens.{Token}
-use Rattle.c_tree.specs.Words.{open_brace}
+use Rattle.c_lex.specs.Tokens.{Token}
+use Rattle.c_grammar.specs.Words.{open_brace}
 use Rattle.c_tree.specs.TreeDecl.{LocalDecl, local_depth}
 use Rattle.c_tree.specs.TreeUnit.{Ext, FuncHead, ext_depth, head_depth}
 use Rattle.c_tree.specs.TreeOf.{ext_of, local_of}
 use Rattle.c_tree.specs.declared.decl.LocalDecl.{LocalDecl as RustLocal}
-use Rattle.c_tree.specs.Reads.{most, begins_block, IsLocalAt, IsDeclarationAt, IsHeadAt}
+use Rattle.c_grammar.specs.Reads.{most, begins_block, IsLocalAt, IsDeclarationAt, IsHeadAt}
 use Rattle.c_expr.specs.Front.{eat}
 use Rattle.c_expr.specs.Answer.{OnNotC, IsNotTooDeep}
 use Rattle.c_expr.specs.declared.error.ParseErr.{ParseErr}
 use Rattle.c_expr.specs.declared.error.ParseErr.TheVariants.{TooDeep, NotC, Memory}
 use Rattle.c_expr.proofs.Taken.{eat_takes}
-use Rattle.c_tree.specs.WrittenDecl.{plain_local}
-use Rattle.c_tree.specs.WrittenUnit.{plain_ext, plain_head}
+use Rattle.c_grammar.specs.WrittenDecl.{plain_local}
+use Rattle.c_grammar.specs.WrittenUnit.{plain_ext, plain_head}
 use Rattle.c_decl.specs.declared.Head.{Head}
 use Rattle.c_decl.specs.declared.Head.TheVariants.{Whole, Func}
 use Rattle.c_decl.specs.Answers.{Gives}

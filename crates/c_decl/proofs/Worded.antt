@@ -2,7 +2,7 @@
 use Rattle.std.proofs.Common.{◌≡◌, ℕ, ◌<◌, ◌≤◌, ◌-◌, ◌+◌, zero, suc, List, [], ◌∷◌, ◌++◌, length, Option, Some, None, Result, Err, refl, ap, arith, sym, ◌∙◌}
 use Rattle.c_type.specs.Names.{Name}
 use Rattle.c_type.specs.declared.TagKind.{TagKind}
-use Rattle.c_type.specs.Tokens.{Token}
+use Rattle.c_lex.specs.Tokens.{Token}
 use Rattle.c_tree.specs.TreeExpr.{Expr}
 use Rattle.c_tree.specs.TreeDecl.{TagDef}
 use Rattle.c_expr.specs.Front.{Read, ◌>>=◌}

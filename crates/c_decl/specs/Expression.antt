@@ -1,9 +1,9 @@
 -- Expressions as the readers of declarations and statements read them.
 use Rattle.std.specs.Prelude.{ℕ, List, length, Some, None}
 use Rattle.c_type.specs.Names.{Name, pick}
-use Rattle.c_type.specs.Tokens.{Token}
+use Rattle.c_lex.specs.Tokens.{Token}
 use Rattle.c_tree.specs.TreeExpr.{Expr}
-use Rattle.c_tree.specs.Reads.{most, may_follow}
+use Rattle.c_grammar.specs.Reads.{most, may_follow}
 use Rattle.c_expr.specs.Front.{Read, ◌>>=◌}
 use Rattle.c_expr.specs.Reading as r
 

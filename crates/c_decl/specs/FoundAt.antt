@@ -1,10 +1,10 @@
 -- What stands outside of blocks at a place, as the code finds it.
 use Rattle.std.specs.Prelude.{ℕ, List}
 use Rattle.c_type.specs.Names.{Name}
-use Rattle.c_type.specs.Tokens.{Token}
+use Rattle.c_lex.specs.Tokens.{Token}
 use Rattle.c_tree.specs.TreeOf.{ext_of}
-use Rattle.c_tree.specs.WrittenUnit.{with_typedefs}
-use Rattle.c_tree.specs.Reads.{IsDeclarationAt, IsHeadAt}
+use Rattle.c_grammar.specs.WrittenUnit.{with_typedefs}
+use Rattle.c_grammar.specs.Reads.{IsDeclarationAt, IsHeadAt}
 use Rattle.c_decl.specs.declared.Head.{Head}
 use Rattle.c_decl.specs.declared.Head.TheVariants.{Whole, Func}
 use Rattle.c_decl.specs.HeadOf.{head_of}

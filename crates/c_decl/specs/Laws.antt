@@ -1,12 +1,12 @@
 -- The laws that join reading declarations to their spellings.
 use Rattle.std.specs.Prelude.{◌≡◌, ◌≤◌, List, Some, true}
 use Rattle.c_type.specs.Names.{Name}
-use Rattle.c_type.specs.Tokens.{Token}
+use Rattle.c_lex.specs.Tokens.{Token}
 use Rattle.c_tree.specs.TreeDecl.{local_depth}
 use Rattle.c_tree.specs.TreeUnit.{ext_depth, head_depth}
-use Rattle.c_tree.specs.WrittenDecl.{WrittenLocal, plain_local, IsLocal, spell_local}
-use Rattle.c_tree.specs.WrittenUnit.{WrittenExt, WrittenHead, plain_ext, plain_head, IsExt, IsFuncHead, spell_ext, spell_head}
-use Rattle.c_tree.specs.Reads.{most, is_declaration, begins_block}
+use Rattle.c_grammar.specs.WrittenDecl.{WrittenLocal, plain_local, IsLocal, spell_local}
+use Rattle.c_grammar.specs.WrittenUnit.{WrittenExt, WrittenHead, plain_ext, plain_head, IsExt, IsFuncHead, spell_ext, spell_head}
+use Rattle.c_grammar.specs.Reads.{most, is_declaration, begins_block}
 use Rattle.c_decl.specs.Expression.{expression}
 use Rattle.c_decl.specs.ReadDecl.{whole, head, outside, local}
 

@@ -1,19 +1,19 @@
 -- From tokens to the declarations of parameters, in blocks and outside of blocks.
 use Rattle.std.specs.Prelude.{ℕ, zero, suc, List, [], ◌∷◌, length, Bool, true, false, nat_eq, ◌&&◌, ◌||◌, Option, Some, None}
 use Rattle.c_type.specs.Names.{Name, pick}
-use Rattle.c_type.specs.Tokens.{Tok, Token}
-use Rattle.c_type.specs.Tokens as k
+use Rattle.c_lex.specs.Tokens.{Tok, Token}
+use Rattle.c_lex.specs.Tokens as k
 use Rattle.c_tree.specs.declared.decl.Storage.{Storage}
-use Rattle.c_tree.specs.Words.{open_brace, comma_mark, semicolon, equals, register_word}
+use Rattle.c_grammar.specs.Words.{open_brace, comma_mark, semicolon, equals, register_word}
 use Rattle.c_tree.specs.TreeExpr.{Expr}
 use Rattle.c_tree.specs.TreeDecl.{Types, TagDef, TagSpec, FileSpecs, LocalSpecs, ParDecl, LocalDecl, Declr, par_depth, local_depth}
 use Rattle.c_tree.specs.TreeDecl as t
 use Rattle.c_tree.specs.TreeUnit.{Ext, FuncHead, ext_depth, head_depth}
 use Rattle.c_tree.specs.TreeUnit as u
 use Rattle.c_decl.specs.Named.{declares_function}
-use Rattle.c_tree.specs.WrittenType.{TypePart, word_part, tag_part, name_part, spelled}
-use Rattle.c_tree.specs.WrittenSpecs.{first_of, is_type_or_none, is_file_storage}
-use Rattle.c_tree.specs.WrittenDecl.{is_at_most_one}
+use Rattle.c_grammar.specs.WrittenType.{TypePart, word_part, tag_part, name_part, spelled}
+use Rattle.c_grammar.specs.WrittenSpecs.{first_of, is_type_or_none, is_file_storage}
+use Rattle.c_grammar.specs.WrittenDecl.{is_at_most_one}
 use Rattle.c_expr.specs.Front.{Read, ◌>>=◌, eat, eat_word, line_at, grown}
 use Rattle.c_decl.specs.Separated.{separated}
 use Rattle.c_decl.specs.ReadDeclr as r

@@ -1,8 +1,8 @@
 -- From tokens to an initialiser and to a declarator with its initialiser.
 use Rattle.std.specs.Prelude.{ℕ, zero, suc, List, length, Option, Some, None}
 use Rattle.c_type.specs.Names.{Name}
-use Rattle.c_type.specs.Tokens.{Token}
-use Rattle.c_tree.specs.Words.{open_brace, close_brace, comma_mark, equals}
+use Rattle.c_lex.specs.Tokens.{Token}
+use Rattle.c_grammar.specs.Words.{open_brace, close_brace, comma_mark, equals}
 use Rattle.c_tree.specs.TreeExpr.{Expr}
 use Rattle.c_tree.specs.TreeDecl.{Declr, Init, Inits, Item, init_depth, item_depth}
 use Rattle.c_tree.specs.TreeDecl as t

@@ -3,17 +3,17 @@ use Rattle.std.specs.Prelude.{ℕ, zero, suc, ◌+◌, List, [], ◌∷◌, ◌+
 use Rattle.c_type.specs.Names.{Name, pick, or_else}
 use Rattle.c_type.specs.declared.TagKind.{TagKind}
 use Rattle.c_type.specs.declared.TagKind.TheVariants.{Struct, Union, Enum}
-use Rattle.c_type.specs.Tokens.{Tok, Token}
-use Rattle.c_type.specs.Tokens as k
+use Rattle.c_lex.specs.Tokens.{Tok, Token}
+use Rattle.c_lex.specs.Tokens as k
 use Rattle.c_tree.specs.declared.decl.Storage.{Storage}
 use Rattle.c_tree.specs.declared.decl.Storage.TheVariants.{Auto, Register, Static, Extern}
-use Rattle.c_tree.specs.Words.{TypeWord, Unsigned, Char, Short, Long, Int, Void, open_brace, close_brace, semicolon, equals}
+use Rattle.c_grammar.specs.Words.{TypeWord, Unsigned, Char, Short, Long, Int, Void, open_brace, close_brace, semicolon, equals}
 use Rattle.c_tree.specs.TreeExpr.{Expr}
 use Rattle.c_tree.specs.TreeDecl.{Types, TagDef, Mem, Mems, En, def_depth, mem_depth, en_depth}
 use Rattle.c_tree.specs.TreeDecl as t
-use Rattle.c_tree.specs.WrittenType.{TypePart, word_part, tag_part, name_part, is_typedef, spelled}
-use Rattle.c_tree.specs.WrittenDeclr.{plain_if}
-use Rattle.c_tree.specs.WrittenSpecs.{first_of, is_type, is_type_or_none}
+use Rattle.c_grammar.specs.WrittenType.{TypePart, word_part, tag_part, name_part, is_typedef, spelled}
+use Rattle.c_grammar.specs.WrittenDeclr.{plain_if}
+use Rattle.c_grammar.specs.WrittenSpecs.{first_of, is_type, is_type_or_none}
 use Rattle.c_expr.specs.Front.{Read, ◌>>=◌, eat, line_at, any_name, name_at, grown}
 use Rattle.c_decl.specs.Separated.{separated}
 use Rattle.c_decl.specs.ReadDeclr as r

@@ -1,7 +1,7 @@
 -- From tokens to members with commas between them.
 use Rattle.std.specs.Prelude.{ℕ, zero, suc, List, [], ◌∷◌, Option, Some, None}
-use Rattle.c_type.specs.Tokens.{Token}
-use Rattle.c_tree.specs.Words.{comma_mark}
+use Rattle.c_lex.specs.Tokens.{Token}
+use Rattle.c_grammar.specs.Words.{comma_mark}
 use Rattle.c_expr.specs.Front.{Read, ◌>>=◌, eat}
 
 abbrev pub separated_by : {A : Type 0} → (List Token → Read (List A)) → A → List Token → Option (List Token) → Read (List A)

@@ -1,8 +1,8 @@
 -- The words of the code as data.
 use Rattle.std.specs.Prelude.{List, Vec, map}
 use Rattle.std.specs.Global.{Global}
-use Rattle.c_tree.specs.Words as w
-use Rattle.c_tree.specs.WrittenType as p
+use Rattle.c_grammar.specs.Words as w
+use Rattle.c_grammar.specs.WrittenType as p
 use Rattle.c_tree.specs.TreeOf.{def_of}
 use Rattle.c_decl.specs.declared.words.TypeWord.{TypeWord}
 use Rattle.c_decl.specs.declared.words.TypeWord.TheVariants.{Unsigned, Char, Short, Long, Int, Void}

@@ -2,7 +2,7 @@
 ghost use Rattle.std.specs.Prelude.{◌≡◌, length, map};
 ghost use Rattle.c_tree.specs.TreeDecl.{def_depth, en_depth, mem_depth, struct};
 ghost use Rattle.c_tree.specs.TreeOf.{def_of, en_of, mem_of, mems_from, part_of};
-ghost use Rattle.c_tree.specs.Reads.{most};
+ghost use Rattle.c_grammar.specs.Reads.{most};
 ghost use Rattle.c_expr.specs.Front as f;
 ghost use Rattle.c_decl.specs.Answers.{Gives, found, names, rest};
 ghost use Rattle.c_decl.specs.Expression.{expression};

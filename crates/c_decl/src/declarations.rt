@@ -2,7 +2,7 @@
 ghost use Rattle.std.specs.Prelude.{◌≡◌, ◌≤◌, IfOk, length, map, suc};
 ghost use Rattle.c_tree.specs.TreeDecl.{par_depth};
 ghost use Rattle.c_tree.specs.TreeOf.{local_of, par_of};
-ghost use Rattle.c_tree.specs.Reads.{most};
+ghost use Rattle.c_grammar.specs.Reads.{most};
 ghost use Rattle.c_expr.specs.Front as f;
 ghost use Rattle.c_lex.specs.Shown.{tokens_of};
 ghost use Rattle.c_decl.specs.Answers.{Gives, found, names, rest};

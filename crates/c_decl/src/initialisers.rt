@@ -2,7 +2,7 @@
 ghost use Rattle.std.specs.Prelude.{◌≡◌, ◌+◌, length, map};
 ghost use Rattle.c_tree.specs.TreeDecl.{init_depth, item_depth, group};
 ghost use Rattle.c_tree.specs.TreeOf.{declr_of, init_of, inits_from, item_of, part_of};
-ghost use Rattle.c_tree.specs.Reads.{most};
+ghost use Rattle.c_grammar.specs.Reads.{most};
 ghost use Rattle.c_expr.specs.Front as f;
 ghost use Rattle.c_decl.specs.Answers.{Gives, found, names, rest};
 ghost use Rattle.c_decl.specs.Expression.{expression};

@@ -1,7 +1,7 @@
 // What a declarator declares.
 ghost use Rattle.std.specs.Prelude.{◌≡◌};
 ghost use Rattle.c_tree.specs.TreeOf.{declr_of};
-ghost use Rattle.c_tree.specs.WrittenDeclr.{declared};
+ghost use Rattle.c_tree.specs.TreeDecl.{declared};
 ghost use Rattle.c_decl.specs.ReadDeclr.{has_names as has_names_lem};
 ghost use Rattle.c_decl.specs.Named.{is_name as is_name_lem, declares_function as declares_function_lem};
 

@@ -1,7 +1,7 @@
 // Declarations outside of blocks, and the heads of functions.
 ghost use Rattle.std.specs.Prelude.{◌≡◌, ◌≤◌, IfOk, length, Some, None};
 ghost use Rattle.c_tree.specs.TreeOf.{declr_of};
-ghost use Rattle.c_tree.specs.Reads.{most};
+ghost use Rattle.c_grammar.specs.Reads.{most};
 ghost use Rattle.c_type.specs.Names.{pick};
 ghost use Rattle.c_lex.specs.Shown.{tokens_of};
 ghost use Rattle.c_decl.specs.Answers.{Gives, found, names, rest};

@@ -1,8 +1,8 @@
 // The type that parts spell: words in any order, a tag or a typedef name.
 ghost use Rattle.std.specs.Prelude.{◌≡◌, ◌++◌, ◌∷◌, [], IfOk, map, nat_eq, Some};
 ghost use Rattle.c_tree.specs.TreeOf.{part_of, type_spec_of};
-ghost use Rattle.c_tree.specs.Words.{type_word};
-ghost use Rattle.c_tree.specs.WrittenType as t;
+ghost use Rattle.c_grammar.specs.Words.{type_word};
+ghost use Rattle.c_grammar.specs.WrittenType as t;
 ghost use Rattle.c_decl.specs.WordsOf.{type_part_of, type_word_of, words_of};
 
 use crate::words::{TypePart, TypeWord};

@@ -2,7 +2,7 @@
 ghost use Rattle.std.specs.Prelude.{◌≡◌, ◌∷◌, [], IfOk, map, not};
 ghost use Rattle.std.specs.Option.{option_map};
 ghost use Rattle.c_tree.specs.TreeOf.{def_of, file_specs_of, local_specs_of, part_of, tag_of, types_of};
-ghost use Rattle.c_tree.specs.WrittenSpecs as p;
+ghost use Rattle.c_grammar.specs.WrittenSpecs as p;
 ghost use Rattle.c_decl.specs.ReadDecl as e;
 ghost use Rattle.c_decl.specs.ReadSpecs as s;
 ghost use Rattle.c_decl.specs.WordsOf.{found_of, type_part_of};

@@ -1,7 +1,7 @@
 // The words before declarators.
 ghost use Rattle.std.specs.Prelude.{◌≡◌, ◌+◌, ◌<◌, ◌≤◌, ◌^◌, [], ◌++◌, ◌∷◌, length, map, IfOk, IfErr};
 ghost use Rattle.c_tree.specs.TreeOf.{def_of};
-ghost use Rattle.c_tree.specs.Reads.{most};
+ghost use Rattle.c_grammar.specs.Reads.{most};
 ghost use Rattle.c_expr.specs.Front as f;
 ghost use Rattle.c_expr.specs.declared.error.ParseErr.{ParseErr};
 ghost use Rattle.c_decl.specs.Answers.{Gives, found, names, rest};

@@ -2,10 +2,10 @@
 use Rattle.std.proofs.Common.{◌≡◌, ℕ, ◌<◌, ◌-◌, List, length, map, take, drop, Option, None, Result, Err, ap, sym, ◌∙◌, arith}
 use Rattle.std.proofs.lemmas.List.{take_all, drop-map, length-drop}
 use Rattle.c_type.specs.Names.{Name}
-use Rattle.c_type.specs.Tokens.{Token}
+use Rattle.c_lex.specs.Tokens.{Token}
 use Rattle.c_tree.specs.TreeExpr.{Expr}
-use Rattle.c_tree.specs.Reads.{IsExprAt}
-use Rattle.c_tree.specs.WrittenExpr.{spell}
+use Rattle.c_grammar.specs.Reads.{IsExprAt}
+use Rattle.c_grammar.specs.WrittenExpr.{spell}
 use Rattle.c_lex.specs.Shown.{token_of}
 use Rattle.c_lex.specs.declared.Token as code
 use Rattle.c_expr.specs.Answer.{OnNotC, IsNotTooDeep}

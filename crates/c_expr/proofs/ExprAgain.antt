@@ -2,15 +2,15 @@
 use Rattle.std.proofs.Common.{◌≡◌, ℕ, ◌+◌, ◌-◌, ◌<◌, ◌≤◌, max, zero, suc, List, [], ◌∷◌, length, Some, None, Bool, true, false, nat_lt, ◌||◌, refl, arith, ap, sym, ◌∙◌}
 use Rattle.std.proofs.lemmas.Bool.{le-ltb, ltb-true, ltb-false, eqb-true}
 use Rattle.c_type.specs.Names.{Name, pick}
-use Rattle.c_type.specs.Tokens.{Tok, Token}
-use Rattle.c_type.specs.Tokens as k
+use Rattle.c_lex.specs.Tokens.{Tok, Token}
+use Rattle.c_lex.specs.Tokens as k
 use Rattle.c_tree.specs.declared.expr.BinaryOp.{BinaryOp}
-use Rattle.c_tree.specs.Words.{tok, mark, binary_level, binary_mark, assign_mark, unary_of, step_mark}
+use Rattle.c_grammar.specs.Words.{tok, mark, binary_level, binary_mark, assign_mark, unary_of, step_mark}
 use Rattle.c_tree.specs.TreeExpr.{Expr, Exprs, expr_depth, exprs_depth}
 use Rattle.c_tree.specs.TreeExpr as t
-use Rattle.c_tree.specs.WrittenType.{is_typedef}
-use Rattle.c_tree.specs.WrittenExpr.{Written, Args, Others, first, plain, plains, level, is_cast, IsLevelled, AreLevelled, OthersLevelled, spell, spell_args, spell_others}
-use Rattle.c_tree.specs.WrittenExpr as w
+use Rattle.c_grammar.specs.WrittenType.{is_typedef}
+use Rattle.c_grammar.specs.WrittenExpr.{Written, Args, Others, first, plain, plains, level, is_cast, IsLevelled, AreLevelled, OthersLevelled, spell, spell_args, spell_others}
+use Rattle.c_grammar.specs.WrittenExpr as w
 use Rattle.c_expr.specs.Front.{Read, ◌>>=◌, eat, eat_word, grown, front_mark}
 use Rattle.c_expr.specs.Typename.{type_bracket, begins_type, begins_tok, type_word_of, tag_of, is_there}
 use Rattle.c_expr.specs.Reading.{operator_at, assigned_at, choice_at, comma_at}

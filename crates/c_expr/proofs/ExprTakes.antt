@@ -2,24 +2,24 @@
 use Rattle.std.proofs.Common.{◌≡◌, ℕ, ◌≤◌, max, zero, suc, List, [], ◌∷◌, length, Option, Some, None, false, nat_lt, nat_eq, refl, arith, ap, sym, ◌∙◌, inl, inr}
 use Rattle.std.proofs.lemmas.Bool.{ltb-false}
 use Rattle.c_type.specs.Names.{Name, pick}
-use Rattle.c_type.specs.Tokens.{Tok, Token}
-use Rattle.c_type.specs.Tokens as k
+use Rattle.c_lex.specs.Tokens.{Tok, Token}
+use Rattle.c_lex.specs.Tokens as k
 use Rattle.c_tree.specs.declared.expr.BinaryOp.{BinaryOp}
 use Rattle.c_tree.specs.declared.expr.AssignOp.{AssignOp}
 use Rattle.c_tree.specs.declared.expr.UnaryOp.{UnaryOp}
 use Rattle.c_tree.specs.declared.expr.StepOp.{StepOp}
-use Rattle.c_tree.specs.Words.{tok, mark, word, binary_level, binary_mark, assign_mark, unary_mark}
+use Rattle.c_grammar.specs.Words.{tok, mark, word, binary_level, binary_mark, assign_mark, unary_mark}
 use Rattle.c_tree.specs.TreeExpr.{TypeName, Expr, Exprs, expr_depth}
 use Rattle.c_tree.specs.TreeExpr as t
-use Rattle.c_tree.specs.WrittenType.{is_typedef, plain_name, spell_name}
-use Rattle.c_tree.specs.WrittenExpr.{Written, Args, Others, first, plain, plains, level, is_cast, IsLevelled, AreLevelled, spell, spell_args, spell_others}
-use Rattle.c_tree.specs.WrittenExpr as w
-use Rattle.c_tree.specs.Reads.{Spells}
+use Rattle.c_grammar.specs.WrittenType.{is_typedef, plain_name, spell_name}
+use Rattle.c_grammar.specs.WrittenExpr.{Written, Args, Others, first, plain, plains, level, is_cast, IsLevelled, AreLevelled, spell, spell_args, spell_others}
+use Rattle.c_grammar.specs.WrittenExpr as w
+use Rattle.c_grammar.specs.Reads.{Spells}
 use Rattle.c_expr.specs.Front.{Read, ◌>>=◌, eat, eat_word, line_at, name_at, grown, front_mark}
 use Rattle.c_expr.specs.Typename.{typed, type_bracket, begins_type}
 use Rattle.c_expr.specs.Reading.{operator_at, assigned_at, choice_at, comma_at}
 use Rattle.c_expr.specs.Reading as r
-use Rattle.c_tree.specs.Words.{unary_of, step_of}
+use Rattle.c_grammar.specs.Words.{unary_of, step_of}
 use Rattle.c_expr.proofs.Taken.{some_is, bind_some, chosen, Front, eat_takes, word_takes, name_takes, unary_takes, step_takes, assigned_takes, operator_takes, choice_takes, comma_takes}
 use Rattle.c_expr.proofs.Fronts.{line_first}
 use Rattle.c_expr.proofs.Takes.{typed_takes}

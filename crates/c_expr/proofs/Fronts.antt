@@ -2,14 +2,14 @@
 use Rattle.std.proofs.Common.{◌≡◌, ℕ, ◌<◌, ◌≤◌, List, [], ◌∷◌, length, Some, None, Bool, true, false, nat_eq, ◌||◌, refl, arith, ap, sym, ◌∙◌, true≢false}
 use Rattle.std.proofs.lemmas.Bool.{le-ltb, eqb-true}
 use Rattle.c_type.specs.Names.{Name, pick}
-use Rattle.c_type.specs.Tokens.{Tok, Token}
-use Rattle.c_type.specs.Tokens as k
+use Rattle.c_lex.specs.Tokens.{Tok, Token}
+use Rattle.c_lex.specs.Tokens as k
 use Rattle.c_tree.specs.declared.expr.UnaryOp.TheVariants as u
 use Rattle.c_tree.specs.declared.expr.UnaryOp.{UnaryOp}
-use Rattle.c_tree.specs.Words.{mark, tok, unary_mark, assign_mark, binary_mark, step_mark, comma_mark}
-use Rattle.c_tree.specs.WrittenType.{WrittenName, TypePart, word_part, tag_part, name_part, is_typedef, spell_name, spell_parts, spell_part, spell_stars}
-use Rattle.c_tree.specs.WrittenExpr.{Written, IsLevelled}
-use Rattle.c_tree.specs.WrittenExpr as w
+use Rattle.c_grammar.specs.Words.{mark, tok, unary_mark, assign_mark, binary_mark, step_mark, comma_mark}
+use Rattle.c_grammar.specs.WrittenType.{WrittenName, TypePart, word_part, tag_part, name_part, is_typedef, spell_name, spell_parts, spell_part, spell_stars}
+use Rattle.c_grammar.specs.WrittenExpr.{Written, IsLevelled}
+use Rattle.c_grammar.specs.WrittenExpr as w
 use Rattle.c_expr.specs.Front.{eat, is_mark, is_word, eat_word, line_at, grown}
 
 pub grown_again : {A : Type 0} (depth : A → ℕ) (most : ℕ) (x : A) (ts : List Token) → depth x ≤ most → grown depth most x ts ≡ Some (x, ts)

@@ -8,7 +8,7 @@ use Rattle.std.proofs.lemmas.Cmp.{nat_list_eq_equiv}
 use Rattle.std.proofs.lemmas.Slice.Eq.{bytes_eq-Decides}
 use Rattle.indexmap.specs.IndexSet.{insert_key}
 use Rattle.c_type.specs.Names.{Name}
-use Rattle.c_tree.specs.WrittenType.{is_typedef}
+use Rattle.c_grammar.specs.WrittenType.{is_typedef}
 
 is_typedef_more : (names : List Name) (y x : Name) → is_typedef (names ++ y ∷ []) x ≡ (is_typedef names x || bytes_eq x y)
 is_typedef_more [] y x = or-false (bytes_eq y x) ∙ nat_list_eq_equiv.symm y x

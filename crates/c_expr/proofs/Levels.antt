@@ -4,14 +4,14 @@ use Rattle.std.proofs.lemmas.Bool.{ltb-false, ltb-true, le-ltb, lt-ltb}
 use Rattle.c_type.specs.Names.{Name, pick}
 use Rattle.c_type.specs.declared.TagKind.{TagKind}
 use Rattle.c_type.specs.declared.TagKind.TheVariants.{Struct, Union, Enum}
-use Rattle.c_type.specs.Tokens.{Tok, Token}
-use Rattle.c_type.specs.Tokens as k
+use Rattle.c_lex.specs.Tokens.{Tok, Token}
+use Rattle.c_lex.specs.Tokens as k
 use Rattle.c_tree.specs.declared.expr.BinaryOp.{BinaryOp}
 use Rattle.c_tree.specs.declared.expr.BinaryOp.TheVariants as b
-use Rattle.c_tree.specs.Words.{TypeWord, Unsigned, Char, Short, Long, Int, Void, mark, binary_of, binary_level, type_word, tag_word}
-use Rattle.c_tree.specs.WrittenType.{TypePart, word_part, tag_part, name_part, WrittenName, IsName, IsPart, AreParts, spelled, has_spelling, spell_name, spell_parts, spell_stars}
-use Rattle.c_tree.specs.WrittenExpr.{Written, level}
-use Rattle.c_tree.specs.WrittenExpr as w
+use Rattle.c_grammar.specs.Words.{TypeWord, Unsigned, Char, Short, Long, Int, Void, mark, binary_of, binary_level, type_word, tag_word}
+use Rattle.c_grammar.specs.WrittenType.{TypePart, word_part, tag_part, name_part, WrittenName, IsName, IsPart, AreParts, spelled, has_spelling, spell_name, spell_parts, spell_stars}
+use Rattle.c_grammar.specs.WrittenExpr.{Written, level}
+use Rattle.c_grammar.specs.WrittenExpr as w
 use Rattle.c_expr.specs.Front.{paired, marked, front_mark}
 use Rattle.c_expr.specs.Typename.{begins_type, type_bracket, type_word_of, tag_of, is_there}
 use Rattle.c_expr.specs.Reading.{at_least, binary_from, operator_at}

@@ -2,8 +2,8 @@
 use Rattle.std.proofs.Common.{◌≡◌, ℕ, ◌<◌, ◌≤◌, List, [], ◌∷◌, Option, Some, None, Bool, true, false, nat_lt, nat_eq, refl, arith, ap}
 use Rattle.std.proofs.lemmas.Bool.{lt-ltb, le-ltb, ltb-true}
 use Rattle.c_type.specs.Names.{pick}
-use Rattle.c_type.specs.Tokens.{Tok, Token}
-use Rattle.c_type.specs.Tokens as k
+use Rattle.c_lex.specs.Tokens.{Tok, Token}
+use Rattle.c_lex.specs.Tokens as k
 use Rattle.c_tree.specs.declared.expr.BinaryOp.{BinaryOp}
 use Rattle.c_tree.specs.declared.expr.AssignOp.{AssignOp}
 use Rattle.c_tree.specs.declared.expr.UnaryOp.{UnaryOp}
@@ -12,7 +12,7 @@ use Rattle.c_tree.specs.declared.expr.AssignOp.TheVariants as a
 use Rattle.c_tree.specs.declared.expr.BinaryOp.TheVariants as b
 use Rattle.c_tree.specs.declared.expr.UnaryOp.TheVariants as u
 use Rattle.c_tree.specs.declared.expr.StepOp.TheVariants as s
-use Rattle.c_tree.specs.Words.{mark, binary_of, binary_mark, binary_level, assign_of, assign_mark, unary_of, unary_mark, step_of, step_mark}
+use Rattle.c_grammar.specs.Words.{mark, binary_of, binary_mark, binary_level, assign_of, assign_mark, unary_of, unary_mark, step_of, step_mark}
 use Rattle.c_expr.specs.Front.{eat, paired, marked, front_mark}
 use Rattle.c_expr.specs.Reading.{at_least, binary_from, operator_at, assigned_at}
 use Rattle.c_expr.specs.Ends.{Ends}

@@ -4,14 +4,14 @@ use Rattle.std.proofs.lemmas.Bool.{eqb-true}
 use Rattle.std.proofs.lemmas.List.{drop-drop, append_assoc}
 use Rattle.std.proofs.Math.Seq.{drop-append_seam}
 use Rattle.c_type.specs.Names.{Name}
-use Rattle.c_type.specs.Tokens.{Tok, Token}
-use Rattle.c_type.specs.Tokens as k
-use Rattle.c_tree.specs.Words.{mark, tok, binary_mark, assign_mark, step_mark, comma_mark}
+use Rattle.c_lex.specs.Tokens.{Tok, Token}
+use Rattle.c_lex.specs.Tokens as k
+use Rattle.c_grammar.specs.Words.{mark, tok, binary_mark, assign_mark, step_mark, comma_mark}
 use Rattle.c_tree.specs.TreeExpr.{Expr, expr_depth}
-use Rattle.c_tree.specs.WrittenType.{TypePart, word_part, tag_part, name_part, WrittenName, spell_part, spell_parts, spell_stars, spell_name}
-use Rattle.c_tree.specs.WrittenExpr.{Written, Args, Others, plain, spell, spell_args, spell_others}
-use Rattle.c_tree.specs.WrittenExpr as w
-use Rattle.c_tree.specs.Reads.{IsExprAt, may_follow}
+use Rattle.c_grammar.specs.WrittenType.{TypePart, word_part, tag_part, name_part, WrittenName, spell_part, spell_parts, spell_stars, spell_name}
+use Rattle.c_grammar.specs.WrittenExpr.{Written, Args, Others, plain, spell, spell_args, spell_others}
+use Rattle.c_grammar.specs.WrittenExpr as w
+use Rattle.c_grammar.specs.Reads.{IsExprAt, may_follow}
 use Rattle.c_expr.specs.Reading as r
 use Rattle.c_expr.specs.Ends.{Ends, nest}
 use Rattle.c_expr.specs.Brackets.{brackets}

@@ -1,7 +1,7 @@
 -- Where few brackets are open at each token, few are open in an expression.
 use Rattle.std.proofs.Common.{◌≡◌, ℕ, ◌+◌, ◌-◌, ◌≤◌, suc, List, [], ◌∷◌, refl, arith}
-use Rattle.c_type.specs.Tokens.{Tok, Token}
-use Rattle.c_type.specs.Tokens as k
+use Rattle.c_lex.specs.Tokens.{Tok, Token}
+use Rattle.c_lex.specs.Tokens as k
 use Rattle.c_tree.specs.declared.expr.BinaryOp.{BinaryOp}
 use Rattle.c_tree.specs.declared.expr.AssignOp.{AssignOp}
 use Rattle.c_tree.specs.declared.expr.UnaryOp.{UnaryOp}
@@ -10,11 +10,11 @@ use Rattle.c_tree.specs.declared.expr.AssignOp.TheVariants as a
 use Rattle.c_tree.specs.declared.expr.BinaryOp.TheVariants as b
 use Rattle.c_tree.specs.declared.expr.UnaryOp.TheVariants as u
 use Rattle.c_tree.specs.declared.expr.StepOp.TheVariants as s
-use Rattle.c_tree.specs.Words.{mark, tok, binary_mark, assign_mark, unary_mark, step_mark, comma_mark}
-use Rattle.c_tree.specs.WrittenType.{TypePart, word_part, tag_part, name_part, WrittenName, spell_part, spell_parts, spell_stars, spell_name}
-use Rattle.c_tree.specs.WrittenExpr.{Written, Args, Others, spell, spell_args, spell_others}
-use Rattle.c_tree.specs.WrittenExpr as w
-use Rattle.c_tree.specs.Reads.{most, opened, AreShallow}
+use Rattle.c_grammar.specs.Words.{mark, tok, binary_mark, assign_mark, unary_mark, step_mark, comma_mark}
+use Rattle.c_grammar.specs.WrittenType.{TypePart, word_part, tag_part, name_part, WrittenName, spell_part, spell_parts, spell_stars, spell_name}
+use Rattle.c_grammar.specs.WrittenExpr.{Written, Args, Others, spell, spell_args, spell_others}
+use Rattle.c_grammar.specs.WrittenExpr as w
+use Rattle.c_grammar.specs.Reads.{most, opened, AreShallow}
 use Rattle.c_expr.specs.Brackets.{brackets, arg_brackets, other_brackets}
 
 -- ---- operators open and close nothing

@@ -2,8 +2,8 @@
 use Rattle.std.proofs.Common.{◌≡◌, ℕ, ◌≤◌, List, [], ◌∷◌, Option, Some, None, Bool, true, false, nat_eq, nat_lt, refl, ap, sym, ◌∙◌, ◌⊎◌, inl, inr}
 use Rattle.std.proofs.lemmas.Bool.{eqb-true, ltb-false}
 use Rattle.c_type.specs.Names.{Name, pick}
-use Rattle.c_type.specs.Tokens.{Tok, Token}
-use Rattle.c_type.specs.Tokens as k
+use Rattle.c_lex.specs.Tokens.{Tok, Token}
+use Rattle.c_lex.specs.Tokens as k
 use Rattle.c_tree.specs.declared.expr.BinaryOp.{BinaryOp}
 use Rattle.c_tree.specs.declared.expr.AssignOp.{AssignOp}
 use Rattle.c_tree.specs.declared.expr.UnaryOp.{UnaryOp}
@@ -12,8 +12,8 @@ use Rattle.c_tree.specs.declared.expr.AssignOp.TheVariants as a
 use Rattle.c_tree.specs.declared.expr.BinaryOp.TheVariants as b
 use Rattle.c_tree.specs.declared.expr.UnaryOp.TheVariants as u
 use Rattle.c_tree.specs.declared.expr.StepOp.TheVariants as s
-use Rattle.c_tree.specs.Words.{tok, mark, with_mark, binary_of, binary_mark, binary_level, assign_of, assign_mark, unary_of, unary_mark, step_of, step_mark}
-use Rattle.c_tree.specs.WrittenType.{is_typedef}
+use Rattle.c_grammar.specs.Words.{tok, mark, with_mark, binary_of, binary_mark, binary_level, assign_of, assign_mark, unary_of, unary_mark, step_of, step_mark}
+use Rattle.c_grammar.specs.WrittenType.{is_typedef}
 use Rattle.c_expr.specs.Front.{◌>>=◌, eat, eat_word, is_mark, is_word, line_at, any_name, name_of, name_at, paired, marked, front_mark}
 use Rattle.c_expr.specs.Reading.{at_least, binary_from, operator_at, assigned_at, choice_at, comma_at}
 

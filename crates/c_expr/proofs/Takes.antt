@@ -3,11 +3,11 @@ use Rattle.std.proofs.Common.{◌≡◌, ℕ, zero, suc, List, [], ◌∷◌, le
 use Rattle.c_type.specs.Names.{Name, pick}
 use Rattle.c_type.specs.declared.TagKind.{TagKind}
 use Rattle.c_type.specs.declared.TagKind.TheVariants.{Struct, Union, Enum}
-use Rattle.c_type.specs.Tokens.{Tok, Token}
-use Rattle.c_type.specs.Tokens as k
-use Rattle.c_tree.specs.Words.{TypeWord, Unsigned, Char, Short, Long, Int, Void, tok, mark, word, type_word, tag_word}
+use Rattle.c_lex.specs.Tokens.{Tok, Token}
+use Rattle.c_lex.specs.Tokens as k
+use Rattle.c_grammar.specs.Words.{TypeWord, Unsigned, Char, Short, Long, Int, Void, tok, mark, word, type_word, tag_word}
 use Rattle.c_tree.specs.TreeExpr.{TypeName, TypeSpec}
-use Rattle.c_tree.specs.WrittenType.{TypePart, word_part, tag_part, name_part, WrittenName, is_typedef, spelled, has_spelling, IsPart, AreParts, spell_part, spell_parts, spell_stars, spell_name, plain_name, IsName, parts_line, part_line}
+use Rattle.c_grammar.specs.WrittenType.{TypePart, word_part, tag_part, name_part, WrittenName, is_typedef, spelled, has_spelling, IsPart, AreParts, spell_part, spell_parts, spell_stars, spell_name, plain_name, IsName, parts_line, part_line}
 use Rattle.c_expr.specs.Front.{Read, ◌>>=◌, eat, line_at, any_name}
 use Rattle.c_expr.specs.Typename.{type_word_of, tag_of, part_word, part_tok, part_at, parts, parts_by, stars, stars_by, starred, typename, typed}
 use Rattle.c_expr.proofs.Taken.{some_is, bind_some, chosen, Front, eat_takes, any_takes, with_mark_is}

@@ -3,11 +3,11 @@ use Rattle.std.proofs.Common.{◌≡◌, ℕ, ◌+◌, ◌<◌, zero, suc, List,
 use Rattle.std.proofs.lemmas.List.{length-map}
 use Rattle.std.specs.Option.{option_map}
 use Rattle.c_type.specs.Names.{Name, pick}
-use Rattle.c_type.specs.Tokens.{Token}
-use Rattle.c_tree.specs.Words.{TypeWord, Unsigned, Char, Short, Long, Int, Void, type_word}
+use Rattle.c_lex.specs.Tokens.{Token}
+use Rattle.c_grammar.specs.Words.{TypeWord, Unsigned, Char, Short, Long, Int, Void, type_word}
 use Rattle.c_tree.specs.TreeExpr.{TypeSpec, TypeName}
 use Rattle.c_tree.specs.TreeExpr as t
-use Rattle.c_tree.specs.WrittenType.{TypePart, word_part, tag_part, name_part, row, occurrences, in_order, words_in, spelled, spell_part}
+use Rattle.c_grammar.specs.WrittenType.{TypePart, word_part, tag_part, name_part, row, occurrences, in_order, words_in, spelled, spell_part}
 use Rattle.c_lex.specs.Shown.{token_of}
 use Rattle.c_lex.specs.declared.Token as code
 use Rattle.c_expr.specs.declared.tally.Count.{Count}

@@ -3,11 +3,11 @@ use Rattle.std.proofs.Common.{◌≡◌, ℕ, suc, List, [], ◌∷◌, ◌++◌
 use Rattle.std.specs.Ordering.{ord_max, nat_cmp}
 use Rattle.std.proofs.lemmas.Bool.Decides.{nat_tests}
 use Rattle.c_type.specs.Names.{Name}
-use Rattle.c_type.specs.Tokens.{Token}
+use Rattle.c_lex.specs.Tokens.{Token}
 use Rattle.c_tree.specs.declared.expr.BinaryOp.{BinaryOp}
 use Rattle.c_tree.specs.declared.expr.StepOp.{StepOp}
 use Rattle.c_tree.specs.declared.expr.Expr as node
-use Rattle.c_tree.specs.Words.{binary_level, step_of}
+use Rattle.c_grammar.specs.Words.{binary_level, step_of}
 use Rattle.c_tree.specs.TreeExpr.{Expr, Exprs, expr_depth, exprs_depth}
 use Rattle.c_tree.specs.TreeExpr as t
 use Rattle.c_tree.specs.TreeOf.{expr_of, exprs_from}

@@ -3,10 +3,10 @@ use Rattle.std.proofs.Common.{◌≡◌, ℕ, ◌+◌, ◌<◌, ◌≤◌, zero,
 use Rattle.c_type.specs.Names.{Name}
 use Rattle.c_type.specs.declared.TagKind.{TagKind}
 use Rattle.c_type.specs.declared.TagKind.TheVariants.{Struct, Union, Enum}
-use Rattle.c_type.specs.Tokens.{Token}
-use Rattle.c_tree.specs.Words.{TypeWord, Unsigned, Char, Short, Long, Int, Void, mark, type_word}
+use Rattle.c_lex.specs.Tokens.{Token}
+use Rattle.c_grammar.specs.Words.{TypeWord, Unsigned, Char, Short, Long, Int, Void, mark, type_word}
 use Rattle.c_tree.specs.TreeExpr.{TypeSpec}
-use Rattle.c_tree.specs.WrittenType.{TypePart, word_part, tag_part, name_part, WrittenName, spelled, has_spelling, IsPart, AreParts, spell_part, spell_parts, spell_stars, spell_name, plain_name, IsName, parts_line}
+use Rattle.c_grammar.specs.WrittenType.{TypePart, word_part, tag_part, name_part, WrittenName, spelled, has_spelling, IsPart, AreParts, spell_part, spell_parts, spell_stars, spell_name, plain_name, IsName, parts_line}
 use Rattle.c_expr.specs.Front.{eat, line_at}
 use Rattle.c_expr.specs.Typename.{type_word_of, part_at, parts, stars, typename, typed}
 use Rattle.c_expr.proofs.Fronts.{part_longer}

@@ -5,8 +5,8 @@ use Rattle.std.proofs.lemmas.List.{drop_more, drop_all}
 use Rattle.c_type.specs.Names.{Name, pick}
 use Rattle.c_type.specs.declared.TagKind.{TagKind}
 use Rattle.c_type.specs.declared.TagKind.TheVariants.{Struct, Union, Enum}
-use Rattle.c_type.specs.Tokens.{Tok, Token}
-use Rattle.c_type.specs.Tokens as k
+use Rattle.c_lex.specs.Tokens.{Tok, Token}
+use Rattle.c_lex.specs.Tokens as k
 use Rattle.c_tree.specs.declared.expr.BinaryOp.{BinaryOp}
 use Rattle.c_tree.specs.declared.expr.AssignOp.{AssignOp}
 use Rattle.c_tree.specs.declared.expr.UnaryOp.{UnaryOp}
@@ -15,13 +15,13 @@ use Rattle.c_tree.specs.declared.expr.AssignOp.TheVariants as a
 use Rattle.c_tree.specs.declared.expr.BinaryOp.TheVariants as b
 use Rattle.c_tree.specs.declared.expr.UnaryOp.TheVariants as u
 use Rattle.c_tree.specs.declared.expr.StepOp.TheVariants as s
-use Rattle.c_tree.specs.Words.{TypeWord, Unsigned, Char, Short, Long, Int, Void, tok, mark, type_word, tag_word, binary_level, binary_mark, assign_mark, unary_mark, step_mark}
+use Rattle.c_grammar.specs.Words.{TypeWord, Unsigned, Char, Short, Long, Int, Void, tok, mark, type_word, tag_word, binary_level, binary_mark, assign_mark, unary_mark, step_mark}
 use Rattle.c_tree.specs.TreeExpr.{expr_depth, exprs_depth}
-use Rattle.c_tree.specs.WrittenType.{TypePart, word_part, tag_part, name_part, WrittenName, spell_part, spell_parts, spell_stars, spell_name}
+use Rattle.c_grammar.specs.WrittenType.{TypePart, word_part, tag_part, name_part, WrittenName, spell_part, spell_parts, spell_stars, spell_name}
 use Rattle.c_lex.specs.Shown.{tok_of, token_of}
 use Rattle.c_lex.specs.declared.Token as code
-use Rattle.c_tree.specs.WrittenExpr.{Written, Args, Others, IsAtLevel, plain, plains, level, IsLevelled, AreLevelled, OthersLevelled, spell, spell_args, spell_others}
-use Rattle.c_tree.specs.WrittenExpr as w
+use Rattle.c_grammar.specs.WrittenExpr.{Written, Args, Others, IsAtLevel, plain, plains, level, IsLevelled, AreLevelled, OthersLevelled, spell, spell_args, spell_others}
+use Rattle.c_grammar.specs.WrittenExpr as w
 use Rattle.c_expr.specs.Ends.{nest, nests, nest_others}
 use Rattle.c_expr.specs.Brackets.{brackets, arg_brackets, other_brackets}
 use Rattle.c_expr.specs.Nesting.{sort_of, mark_sort, is_apart, asked_more, answered, closed, after}

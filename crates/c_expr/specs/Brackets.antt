@@ -1,7 +1,7 @@
 -- How many brackets are open at once in an expression.
 use Rattle.std.specs.Prelude.{ℕ, ◌+◌, max}
-use Rattle.c_tree.specs.WrittenExpr.{Written, Args, Others}
-use Rattle.c_tree.specs.WrittenExpr as w
+use Rattle.c_grammar.specs.WrittenExpr.{Written, Args, Others}
+use Rattle.c_grammar.specs.WrittenExpr as w
 
 -- the greatest number of its brackets that are open at once
 abbrev mutual

@@ -1,9 +1,9 @@
 -- Where an expression ends, and how deep parts and brackets of one stand in one another.
 use Rattle.std.specs.Prelude.{◌≡◌, ℕ, ◌+◌, max, List, None}
-use Rattle.c_type.specs.Tokens.{Token}
-use Rattle.c_tree.specs.Words.{step_of, open_round, open_square, dot_mark, arrow_mark}
-use Rattle.c_tree.specs.WrittenExpr.{Written, Args, Others}
-use Rattle.c_tree.specs.WrittenExpr as w
+use Rattle.c_lex.specs.Tokens.{Token}
+use Rattle.c_grammar.specs.Words.{step_of, open_round, open_square, dot_mark, arrow_mark}
+use Rattle.c_grammar.specs.WrittenExpr.{Written, Args, Others}
+use Rattle.c_grammar.specs.WrittenExpr as w
 use Rattle.c_expr.specs.Front.{eat, front_mark}
 use Rattle.c_expr.specs.Reading.{operator_at, assigned_at, choice_at, comma_at}
 

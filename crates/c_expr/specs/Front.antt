@@ -1,9 +1,9 @@
 -- What stands at the front of a list of tokens.
 use Rattle.std.specs.Prelude.{ℕ, List, [], ◌∷◌, Bool, false, nat_eq, nat_lt, Option, Some, None}
 use Rattle.c_type.specs.Names.{Name, pick}
-use Rattle.c_type.specs.Tokens.{Tok, Token}
-use Rattle.c_type.specs.Tokens as k
-use Rattle.c_tree.specs.WrittenType.{is_typedef}
+use Rattle.c_lex.specs.Tokens.{Tok, Token}
+use Rattle.c_lex.specs.Tokens as k
+use Rattle.c_grammar.specs.WrittenType.{is_typedef}
 
 -- what follows from an option, where it is there
 infixl 10 ◌>>=◌

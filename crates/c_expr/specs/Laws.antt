@@ -1,10 +1,10 @@
 -- The laws that join reading to spelling.
 use Rattle.std.specs.Prelude.{◌≡◌, ◌≤◌, ◌+◌, ℕ, List, Some}
 use Rattle.c_type.specs.Names.{Name}
-use Rattle.c_type.specs.Tokens.{Token}
+use Rattle.c_lex.specs.Tokens.{Token}
 use Rattle.c_tree.specs.TreeExpr.{Expr, expr_depth}
-use Rattle.c_tree.specs.WrittenExpr.{Written, IsAtLevel, plain, spell}
-use Rattle.c_tree.specs.Reads.{Spells, most, AreShallow}
+use Rattle.c_grammar.specs.WrittenExpr.{Written, IsAtLevel, plain, spell}
+use Rattle.c_grammar.specs.Reads.{Spells, most, AreShallow}
 use Rattle.c_expr.specs.Reading as r
 use Rattle.c_expr.specs.Ends.{Ends, nest}
 use Rattle.c_expr.specs.Brackets.{brackets}

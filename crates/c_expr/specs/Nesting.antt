@@ -1,9 +1,9 @@
 -- What each token does to the brackets and choices that are open.
 use Rattle.std.specs.Prelude.{ℕ, zero, suc, max, Bool, nat_eq, ◌&&◌, ◌||◌, Option, Some, None}
 use Rattle.c_type.specs.Names.{pick}
-use Rattle.c_type.specs.Tokens.{Tok}
-use Rattle.c_type.specs.Tokens as k
-use Rattle.c_tree.specs.Words.{open_round, close_round, open_square, close_square, open_brace, close_brace, comma_mark, semicolon, colon, question, sizeof_word}
+use Rattle.c_lex.specs.Tokens.{Tok}
+use Rattle.c_lex.specs.Tokens as k
+use Rattle.c_grammar.specs.Words.{open_round, close_round, open_square, close_square, open_brace, close_brace, comma_mark, semicolon, colon, question, sizeof_word}
 use Rattle.c_expr.specs.Typename.{type_word_of, is_there}
 use Rattle.c_expr.specs.declared.brackets.Sort.{Sort}
 use Rattle.c_expr.specs.declared.brackets.Sort.TheVariants.{Opens, Closes, Comma, Question, Colon, Ends, Plain}

@@ -1,9 +1,9 @@
 -- A part of a type, apart from the line of a tag's name.
 use Rattle.std.specs.Prelude.{Option, Some, None}
 use Rattle.c_type.specs.Names.{Name}
-use Rattle.c_tree.specs.Words.{TypeWord}
+use Rattle.c_grammar.specs.Words.{TypeWord}
 use Rattle.c_tree.specs.TreeExpr.{TagRef}
-use Rattle.c_tree.specs.WrittenType.{TypePart, word_part, tag_part, name_part}
+use Rattle.c_grammar.specs.WrittenType.{TypePart, word_part, tag_part, name_part}
 use Rattle.c_expr.specs.Tally.{word_of}
 use Rattle.c_expr.specs.declared.typename.Part as code
 use Rattle.c_expr.specs.declared.typename.Part.TheVariants as c

@@ -1,9 +1,9 @@
 -- By what a reader of the code reads the parts of an expression.
 use Rattle.std.specs.Prelude.{ℕ, List}
 use Rattle.c_type.specs.Names.{Name}
-use Rattle.c_type.specs.Tokens.{Token}
+use Rattle.c_lex.specs.Tokens.{Token}
 use Rattle.c_tree.specs.TreeExpr.{Expr}
-use Rattle.c_tree.specs.Reads.{most}
+use Rattle.c_grammar.specs.Reads.{most}
 use Rattle.c_expr.specs.declared.reader.Reader.{Reader}
 use Rattle.c_expr.specs.Front.{Read}
 use Rattle.c_expr.specs.Reading as r

@@ -1,16 +1,16 @@
 -- From tokens to an expression.
 use Rattle.std.specs.Prelude.{ℕ, zero, suc, max, List, [], ◌∷◌, length, nat_lt, nat_eq, Option, Some, None}
 use Rattle.c_type.specs.Names.{Name, pick}
-use Rattle.c_type.specs.Tokens.{Tok, Token}
-use Rattle.c_type.specs.Tokens as k
-use Rattle.c_tree.specs.Words.{binary_of, binary_level, assign_of, unary_of, step_of, sizeof_word, open_round, close_round, open_square, close_square, dot_mark, arrow_mark, comma_mark, colon, question}
+use Rattle.c_lex.specs.Tokens.{Tok, Token}
+use Rattle.c_lex.specs.Tokens as k
+use Rattle.c_grammar.specs.Words.{binary_of, binary_level, assign_of, unary_of, step_of, sizeof_word, open_round, close_round, open_square, close_square, dot_mark, arrow_mark, comma_mark, colon, question}
 use Rattle.c_tree.specs.TreeExpr.{TypeName, Expr, Exprs, expr_depth}
 use Rattle.c_tree.specs.declared.expr.BinaryOp.{BinaryOp}
 use Rattle.c_tree.specs.declared.expr.AssignOp.{AssignOp}
 use Rattle.c_tree.specs.declared.expr.UnaryOp.{UnaryOp}
 use Rattle.c_tree.specs.declared.expr.StepOp.{StepOp}
 use Rattle.c_tree.specs.TreeExpr as t
-use Rattle.c_tree.specs.WrittenType.{is_typedef}
+use Rattle.c_grammar.specs.WrittenType.{is_typedef}
 use Rattle.c_expr.specs.Front.{Read, ◌>>=◌, eat, eat_word, line_at, name_at, grown, front_mark}
 use Rattle.c_expr.specs.Typename.{typed, type_bracket}
 

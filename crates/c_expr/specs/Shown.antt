@@ -1,6 +1,6 @@
 -- What the code reads, as the lists and trees on which reading is defined.
 use Rattle.std.specs.Prelude.{List, map}
-use Rattle.c_type.specs.Tokens as k
+use Rattle.c_lex.specs.Tokens as k
 use Rattle.c_tree.specs.TreeExpr.{Expr, Exprs}
 use Rattle.c_tree.specs.TreeOf.{expr_of, exprs_from}
 use Rattle.c_lex.specs.Shown.{token_of}

@@ -1,8 +1,8 @@
 -- What stands behind an expression as its suffix.
 use Rattle.std.specs.Prelude.{ℕ, List, Option, Some, None}
 use Rattle.c_type.specs.Names.{Name}
-use Rattle.c_type.specs.Tokens.{Token}
-use Rattle.c_tree.specs.Words.{step_of, open_round, open_square, close_square, dot_mark, arrow_mark}
+use Rattle.c_lex.specs.Tokens.{Token}
+use Rattle.c_grammar.specs.Words.{step_of, open_round, open_square, close_square, dot_mark, arrow_mark}
 use Rattle.c_tree.specs.declared.expr.StepOp.{StepOp}
 use Rattle.c_tree.specs.TreeExpr.{Expr}
 use Rattle.c_tree.specs.TreeExpr as t

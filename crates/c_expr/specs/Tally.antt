@@ -1,7 +1,7 @@
 -- How often each word of a type was seen.
 use Rattle.std.specs.Prelude.{List, [], ◌∷◌, ◌++◌}
-use Rattle.c_tree.specs.Words.{TypeWord}
-use Rattle.c_tree.specs.Words as w
+use Rattle.c_grammar.specs.Words.{TypeWord}
+use Rattle.c_grammar.specs.Words as w
 use Rattle.c_expr.specs.declared.tally.TypeWord as code
 use Rattle.c_expr.specs.declared.tally.TypeWord.TheVariants as c
 use Rattle.c_expr.specs.declared.tally.Count.{Count}

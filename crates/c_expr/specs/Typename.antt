@@ -3,11 +3,11 @@ use Rattle.std.specs.Prelude.{ℕ, zero, suc, List, [], ◌∷◌, length, Bool,
 use Rattle.c_type.specs.Names.{Name, pick}
 use Rattle.c_type.specs.declared.TagKind.{TagKind}
 use Rattle.c_type.specs.declared.TagKind.TheVariants.{Struct, Enum}
-use Rattle.c_type.specs.Tokens.{Tok, Token}
-use Rattle.c_type.specs.Tokens as k
-use Rattle.c_tree.specs.Words.{TypeWord, Unsigned, Char, Short, Long, Int, Void, type_word, tag_word, with_mark, star, open_round, close_round}
+use Rattle.c_lex.specs.Tokens.{Tok, Token}
+use Rattle.c_lex.specs.Tokens as k
+use Rattle.c_grammar.specs.Words.{TypeWord, Unsigned, Char, Short, Long, Int, Void, type_word, tag_word, with_mark, star, open_round, close_round}
 use Rattle.c_tree.specs.TreeExpr.{TypeName, TypeSpec}
-use Rattle.c_tree.specs.WrittenType.{TypePart, word_part, tag_part, name_part, is_typedef, spelled}
+use Rattle.c_grammar.specs.WrittenType.{TypePart, word_part, tag_part, name_part, is_typedef, spelled}
 use Rattle.c_expr.specs.Front.{Read, ◌>>=◌, eat, line_at, any_name}
 
 abbrev pub type_word_of : ℕ → Option TypeWord

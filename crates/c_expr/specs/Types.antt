@@ -1,10 +1,10 @@
 -- What the code reads of a typename, against what reading gives.
 use Rattle.std.specs.Prelude.{ℕ, suc, List, ◌∷◌, length, Option, Some, None}
 use Rattle.c_type.specs.Names.{Name}
-use Rattle.c_type.specs.Tokens.{Token}
-use Rattle.c_tree.specs.Words.{TypeWord}
+use Rattle.c_lex.specs.Tokens.{Token}
+use Rattle.c_grammar.specs.Words.{TypeWord}
 use Rattle.c_tree.specs.TreeExpr.{TypeSpec}
-use Rattle.c_tree.specs.WrittenType.{TypePart, word_part, spelled}
+use Rattle.c_grammar.specs.WrittenType.{TypePart, word_part, spelled}
 use Rattle.c_expr.specs.Front.{Read, ◌>>=◌}
 use Rattle.c_expr.specs.Part.{Part, plain_part}
 use Rattle.c_expr.specs.Typename as y

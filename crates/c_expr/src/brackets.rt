@@ -1,8 +1,8 @@
 // How deep the brackets of an expression stand in one another.
 ghost use Rattle.std.specs.Prelude.{◌≡◌, ◌+◌, ◌≤◌, ◌<◌, ◌^◌, List, IfSome, length, max};
 ghost use Rattle.c_type.specs.Names.{Name};
-ghost use Rattle.c_type.specs.Tokens as k;
-ghost use Rattle.c_tree.specs.WrittenExpr as w;
+ghost use Rattle.c_lex.specs.Tokens as k;
+ghost use Rattle.c_grammar.specs.WrittenExpr as w;
 ghost use Rattle.c_lex.specs.Shown.{tok_of};
 ghost use Rattle.c_expr.specs.Brackets.{brackets};
 ghost use Rattle.c_expr.specs.Nesting.{sort_of, after};

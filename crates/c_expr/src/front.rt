@@ -1,7 +1,7 @@
 // What stands at the front of the tokens.
 ghost use Rattle.std.specs.Prelude.{◌≡◌};
 ghost use Rattle.std.specs.Option.{option_map};
-ghost use Rattle.c_tree.specs.Words.{step_of, unary_of};
+ghost use Rattle.c_grammar.specs.Words.{step_of, unary_of};
 ghost use Rattle.c_expr.specs.Front as f;
 ghost use Rattle.c_expr.specs.Reading as r;
 ghost use Rattle.c_expr.specs.Gives.{IsNotC};

@@ -1,9 +1,9 @@
 // Expressions from a place of the tokens on.
 ghost use Rattle.std.specs.Prelude.{◌≡◌, ◌≤◌, ℕ, List, map, IfOk};
-ghost use Rattle.c_type.specs.Tokens as k;
+ghost use Rattle.c_lex.specs.Tokens as k;
 ghost use Rattle.c_tree.specs.TreeExpr as tree;
 ghost use Rattle.c_tree.specs.TreeOf.{expr_of};
-ghost use Rattle.c_tree.specs.Reads as reads;
+ghost use Rattle.c_grammar.specs.Reads as reads;
 ghost use Rattle.c_lex.specs.Shown.{token_of, tokens_of};
 ghost use Rattle.c_expr.specs.Answer.{OnNotC, IsNotTooDeep};
 ghost use Rattle.c_expr.specs.Exact.{IsFront};

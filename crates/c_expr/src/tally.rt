@@ -2,7 +2,7 @@
 ghost use Rattle.std.specs.Prelude.{◌≡◌};
 ghost use Rattle.std.specs.Option.{option_map};
 ghost use Rattle.c_tree.specs.TreeOf.{type_spec_of};
-ghost use Rattle.c_tree.specs.WrittenType.{row};
+ghost use Rattle.c_grammar.specs.WrittenType.{row};
 ghost use Rattle.c_expr.specs.Tally.{added, listed, no_words, once_more, word_of};
 ghost use Rattle.c_expr.specs.Typename as y;
 

@@ -2,7 +2,7 @@
 ghost use Rattle.std.specs.Prelude.{◌≡◌, ◌++◌, ◌∷◌, [], List, ℕ, OnOk, OnErr};
 ghost use Rattle.std.specs.Str.{bytes_eq};
 ghost use Rattle.indexmap.specs.IndexSet.{contains_by};
-ghost use Rattle.c_tree.specs.WrittenType.{is_typedef};
+ghost use Rattle.c_grammar.specs.WrittenType.{is_typedef};
 
 use indexmap::IndexSet;
 use num_le::Name;

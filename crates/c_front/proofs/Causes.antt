@@ -5,15 +5,15 @@ use Rattle.std.specs.List.{AllZip}
 use Rattle.std.proofs.Math.Path.{fun_ext}
 use Rattle.c_parse.proofs.Joined as parse
 use Rattle.c_tree.specs.TreeUnit.{Unit}
-use Rattle.c_tree.specs.Reads.{Reads}
+use Rattle.c_grammar.specs.Reads.{Reads}
 use Rattle.c_tree.specs.TUnit.{TypedUnit, Program}
-use Rattle.c_tree.specs.RuleUnit.{IsTyped}
-use Rattle.c_tree.specs.RuleFailsUnit.{UnitFails}
-use Rattle.c_tree.specs.JoinTypes.{Relation, IsWidest}
-use Rattle.c_tree.specs.JoinChecks as join
-use Rattle.c_tree.specs.JoinChecks.{IsJoined, IsRefused, refusal, same_class}
-use Rattle.c_tree.proofs.OneUnit.{unit_one}
-use Rattle.c_tree.proofs.ApartUnit.{unit_apart}
+use Rattle.c_rule.specs.RuleUnit.{IsTyped}
+use Rattle.c_rule.specs.RuleFailsUnit.{UnitFails}
+use Rattle.c_join.specs.JoinTypes.{Relation, IsWidest}
+use Rattle.c_join.specs.JoinChecks as join
+use Rattle.c_join.specs.JoinChecks.{IsJoined, IsRefused, refusal, same_class}
+use Rattle.c_rule.proofs.OneUnit.{unit_one}
+use Rattle.c_rule.proofs.ApartUnit.{unit_apart}
 use Rattle.c_front.specs.Accepted.{IsUnread, IsAccepted}
 use Rattle.c_front.specs.Causes.{IsSyntax, IsRule, IsJoin}
 use Rattle.c_front.specs.Laws.{HasOneAnswer, OneAnswer}

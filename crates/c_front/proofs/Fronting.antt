@@ -3,8 +3,8 @@ use Rattle.std.proofs.Common.{◌≡◌, ℕ, zero, suc, ◌+◌, List, [], ◌�
 use Rattle.std.specs.Prelude.{Option, Some, None, true, Result, Err, IfErr, IfSome, slice_get}
 use Rattle.std.specs.List.{AllZip}
 use Rattle.std.proofs.lemmas.List.{map-append}
-use Rattle.c_type.specs.Tokens.{Token}
-use Rattle.c_type.specs.Falls.{Falls}
+use Rattle.c_lex.specs.Tokens.{Token}
+use Rattle.c_lex.specs.Falls.{Falls}
 use Rattle.c_lex.proofs.Once.{falls_once, falls_or_bad}
 use Rattle.c_lex.specs.Refusals as lexing
 use Rattle.c_lex.specs.Shown.{tokens_of}
@@ -17,13 +17,13 @@ use Rattle.c_parse.specs.Units.{IfTooDeep}
 use Rattle.c_tree.specs.declared.Unit as parsed
 use Rattle.c_tree.specs.TreeUnit as tu
 use Rattle.c_tree.specs.TreeOf.{unit_of}
-use Rattle.c_tree.specs.Reads.{Reads, ReadsTokens, AreShallow}
+use Rattle.c_grammar.specs.Reads.{Reads, ReadsTokens, AreShallow}
 use Rattle.c_tree.specs.TUnit.{TypedUnit, Program}
 use Rattle.c_tree.specs.TypedOf as typed
 use Rattle.c_tree.specs.declared.TypedUnit as typing
-use Rattle.c_tree.specs.RuleUnit.{IsTyped}
-use Rattle.c_tree.specs.RuleFailsUnit.{UnitFails}
-use Rattle.c_tree.specs.JoinChecks.{IsJoined, IsRefused}
+use Rattle.c_rule.specs.RuleUnit.{IsTyped}
+use Rattle.c_rule.specs.RuleFailsUnit.{UnitFails}
+use Rattle.c_join.specs.JoinChecks.{IsJoined, IsRefused}
 use Rattle.c_whole.specs.Refusals.{told_as}
 use Rattle.c_whole.specs.declared.JoinErr.{JoinErr}
 use Rattle.c_whole.specs.declared.JoinErr.TheVariants as whole

@@ -2,10 +2,10 @@
 use Rattle.std.specs.Prelude.{◌≡◌, ℕ, List, true}
 use Rattle.std.specs.List.{AllZip}
 use Rattle.c_tree.specs.TreeUnit.{Unit}
-use Rattle.c_tree.specs.Reads.{Reads}
+use Rattle.c_grammar.specs.Reads.{Reads}
 use Rattle.c_tree.specs.TUnit.{Program}
-use Rattle.c_tree.specs.RuleUnit.{IsTyped}
-use Rattle.c_tree.specs.JoinChecks.{IsJoined}
+use Rattle.c_rule.specs.RuleUnit.{IsTyped}
+use Rattle.c_join.specs.JoinChecks.{IsJoined}
 
 -- no unit reads the text
 abbrev pub IsUnread : List ℕ → Type 0

@@ -2,12 +2,12 @@
 use Rattle.std.specs.Prelude.{◌≡◌, ℕ, List, true, Option, Some, None}
 use Rattle.std.specs.List.{AllZip}
 use Rattle.c_tree.specs.TreeUnit.{Unit}
-use Rattle.c_tree.specs.Reads.{Reads}
+use Rattle.c_grammar.specs.Reads.{Reads}
 use Rattle.c_tree.specs.TUnit.{TypedUnit}
-use Rattle.c_tree.specs.RuleUnit.{IsTyped}
-use Rattle.c_tree.specs.RuleFailsUnit.{UnitFails}
-use Rattle.c_tree.specs.JoinChecks as join
-use Rattle.c_tree.specs.JoinChecks.{IsRefused}
+use Rattle.c_rule.specs.RuleUnit.{IsTyped}
+use Rattle.c_rule.specs.RuleFailsUnit.{UnitFails}
+use Rattle.c_join.specs.JoinChecks as join
+use Rattle.c_join.specs.JoinChecks.{IsRefused}
 use Rattle.c_front.specs.First.{IsFirst}
 use Rattle.c_front.specs.Accepted.{IsUnread}
 

@@ -1,8 +1,8 @@
 -- What the front end answers where it gives no program.
 use Rattle.std.specs.Prelude.{◌≡◌, ℕ, List, ⊤}
 use Rattle.c_tree.specs.TreeUnit.{Unit}
-use Rattle.c_tree.specs.RuleUnit.{IsTyped}
-use Rattle.c_tree.specs.RuleFailsUnit.{UnitFails}
+use Rattle.c_rule.specs.RuleUnit.{IsTyped}
+use Rattle.c_rule.specs.RuleFailsUnit.{UnitFails}
 use Rattle.c_whole.specs.Refusals.{told_as}
 use Rattle.c_whole.specs.declared.JoinErr.{JoinErr}
 use Rattle.c_whole.specs.declared.JoinErr.TheVariants as whole

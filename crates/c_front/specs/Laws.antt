@@ -1,7 +1,7 @@
 -- Texts have one answer.
 use Rattle.std.specs.Prelude.{◌≡◌, ℕ, List}
 use Rattle.c_tree.specs.TUnit.{Program}
-use Rattle.c_tree.specs.JoinChecks as join
+use Rattle.c_join.specs.JoinChecks as join
 use Rattle.c_front.specs.Accepted.{IsAccepted}
 use Rattle.c_front.specs.Causes.{IsSyntax, IsRule, IsJoin}
 

@@ -1,10 +1,10 @@
 -- Texts as they are read: their tokens and units.
 use Rattle.std.specs.Prelude.{ℕ, List, map, Vec}
 use Rattle.std.specs.declared.alloc.Global.{Global}
-use Rattle.c_type.specs.Falls.{Falls}
+use Rattle.c_lex.specs.Falls.{Falls}
 use Rattle.c_tree.specs.TreeUnit.{Unit}
 use Rattle.c_tree.specs.TreeOf.{unit_of}
-use Rattle.c_tree.specs.Reads.{ReadsTokens}
+use Rattle.c_grammar.specs.Reads.{ReadsTokens}
 use Rattle.c_lex.specs.Shown.{tokens_of}
 use Rattle.c_front.specs.declared.front.Source.{Source}
 

@@ -3,8 +3,8 @@ ghost use Rattle.std.specs.Prelude.{◌≡◌, ◌<◌, ◌≤◌, length, map, 
 ghost use Rattle.std.specs.List.{AllZip};
 ghost use Rattle.c_tree.specs.TreeOf as tree;
 ghost use Rattle.c_tree.specs.TypedOf as typed;
-ghost use Rattle.c_tree.specs.RuleUnit.{IsTyped};
-ghost use Rattle.c_tree.specs.JoinChecks.{IsJoined};
+ghost use Rattle.c_rule.specs.RuleUnit.{IsTyped};
+ghost use Rattle.c_join.specs.JoinChecks.{IsJoined};
 ghost use Rattle.c_front.specs.Sources.{IsSource, units_of, texts_of};
 ghost use Rattle.c_front.specs.Errors.{IsTextErr, IsUnitErr, IsUnitsErr, IsRightErr, lex_err, parse_err, join_refused};
 ghost use Rattle.c_front.specs.Accepted.{IsAccepted};

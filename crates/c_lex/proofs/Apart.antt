@@ -2,7 +2,7 @@
 use Rattle.std.proofs.Common.{◌≡◌, ℕ, ◌≤◌, ◌⊎◌, inl, inr, List, [], ◌∷◌, ◌++◌, Bool, true, false, refl, ap, arith}
 use Rattle.std.specs.Prelude.{nat_eq, ◌||◌}
 use Rattle.std.proofs.lemmas.Bool.{and_from, and_parts, or_cases, or_from, ne_eqb, eqb-true, false_from_ne_true}
-use Rattle.c_type.specs.Bytes.{is_between, is_white, is_digit, is_octal, is_hexadecimal, is_letter, begins_name, is_run_byte, are}
+use Rattle.c_lex.specs.Bytes.{is_between, is_white, is_digit, is_octal, is_hexadecimal, is_letter, begins_name, is_run_byte, are}
 use Rattle.c_lex.proofs.Between.{between_is, is_between_of}
 use Rattle.c_lex.proofs.Fronts.{run_byte}
 

@@ -2,7 +2,7 @@
 use Rattle.std.proofs.Common.{◌≡◌, ℕ, ◌≤◌, true}
 use Rattle.std.specs.Prelude.{nat_le}
 use Rattle.std.proofs.lemmas.Bool.{and_from, and_parts, leb-true, le-leb}
-use Rattle.c_type.specs.Bytes.{is_between}
+use Rattle.c_lex.specs.Bytes.{is_between}
 
 pub between_is : (low high b : ℕ) → is_between low high b ≡ true → (low ≤ b) × (b ≤ high)
 between_is low high b e = let q = and_parts (nat_le low b) (nat_le b high) e in (leb-true low b q.0, leb-true b high q.1)

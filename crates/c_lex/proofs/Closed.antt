@@ -4,9 +4,9 @@ use Rattle.std.specs.Prelude.{nat_eq, ◌&&◌}
 use Rattle.std.proofs.lemmas.Bool.{and_parts, eqb-true}
 use Rattle.std.proofs.lemmas.List.{append-nil, length-append}
 use Rattle.c_type.specs.Names.{pick}
-use Rattle.c_type.specs.Bytes.{begins}
-use Rattle.c_type.specs.Pieces.{Item, plain, code, item_bytes, item_value, items_bytes, IsItem, AreItems, IsOpen}
-use Rattle.c_type.specs.Pieces as p
+use Rattle.c_lex.specs.Bytes.{begins}
+use Rattle.c_lex.specs.Pieces.{Item, plain, code, item_bytes, item_value, items_bytes, IsItem, AreItems, IsOpen}
+use Rattle.c_lex.specs.Pieces as p
 use Rattle.c_lex.specs.Reading.{eat, item, chr, text, text_by, comment, ◌>>=◌}
 use Rattle.c_lex.proofs.Texts.{text_done, text_next}
 use Rattle.c_lex.proofs.Quotes.{ItemAt, item_is, item_at, item_read}

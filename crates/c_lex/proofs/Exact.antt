@@ -4,12 +4,12 @@ use Rattle.std.specs.Prelude.{nat_eq, nat_lt, ◌&&◌, ◌||◌, not}
 use Rattle.std.proofs.lemmas.Bool.{and_parts, or_parts, lt-ltb, le-ltb, not-true, eqb-true, ne_eqb, false_from_ne_true}
 use Rattle.std.proofs.lemmas.List.{length-append, take_at, drop_at}
 use Rattle.c_type.specs.Names.{at_or, pick}
-use Rattle.c_type.specs.Tokens.{Tok, int, words, marks}
-use Rattle.c_type.specs.Tokens as t
-use Rattle.c_type.specs.Bytes.{is_white, is_digit, is_octal, is_hexadecimal, is_between, begins_name, is_name_byte, is_run_byte, begins, are}
-use Rattle.c_type.specs.Pieces.{Item, items_bytes, item_bytes, item_value, IsOpen, Number, decimal, octal, hexadecimal, number_bytes, number_value, IsNumber, suffix_bytes, IsSuffix, is_long, Piece, white, name, number, comment, text, mark, piece_bytes, IsPiece, IsLongest, token_of, word_from, name_or_word}
-use Rattle.c_type.specs.Pieces as p
-use Rattle.c_type.specs.Falls.{IsBadByte, IsTooLarge, IsOpenComment, IsOpenText, is_mark_in, begins_piece}
+use Rattle.c_lex.specs.Tokens.{Tok, int, words, marks}
+use Rattle.c_lex.specs.Tokens as t
+use Rattle.c_lex.specs.Bytes.{is_white, is_digit, is_octal, is_hexadecimal, is_between, begins_name, is_name_byte, is_run_byte, begins, are}
+use Rattle.c_lex.specs.Pieces.{Item, items_bytes, item_bytes, item_value, IsOpen, Number, decimal, octal, hexadecimal, number_bytes, number_value, IsNumber, suffix_bytes, IsSuffix, is_long, Piece, white, name, number, comment, text, mark, piece_bytes, IsPiece, IsLongest, token_of, word_from, name_or_word}
+use Rattle.c_lex.specs.Pieces as p
+use Rattle.c_lex.specs.Falls.{IsBadByte, IsTooLarge, IsOpenComment, IsOpenText, is_mark_in, begins_piece}
 use Rattle.c_lex.specs.Reading as r
 use Rattle.c_lex.specs.Reading.{Front, found, bad_byte, too_large, open_comment, open_text, front, run_length, name_front, number_front, number_of, chr_front, text_front, other_front, comment_front, mark_front, mark_from, begins_comment, eat, ◌>>=◌}
 use Rattle.c_lex.proofs.Closed.{chr_is, chr_at, text_is, text_at, items_long, comment_at, closes}

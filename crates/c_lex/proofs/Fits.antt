@@ -6,9 +6,9 @@ use Rattle.std.proofs.lemmas.Bool.{and_parts, eqb-true, leb-true}
 use Rattle.std.proofs.lemmas.List.{take-append-drop, take_at}
 use Rattle.std.proofs.lemmas.Slice.Eq.{bytes_eq-Decides}
 use Rattle.c_type.specs.Names.{at_or, pick}
-use Rattle.c_type.specs.Tokens.{marks}
-use Rattle.c_type.specs.Pieces.{IsLongest}
-use Rattle.c_type.specs.Falls.{is_mark_in}
+use Rattle.c_lex.specs.Tokens.{marks}
+use Rattle.c_lex.specs.Pieces.{IsLongest}
+use Rattle.c_lex.specs.Falls.{is_mark_in}
 use Rattle.c_lex.specs.Reading.{mark_from, begins_comment}
 
 fits_is : (ts m : List ℕ) → starts_with nat_eq ts m ≡ true → ts ≡ m ++ drop (length m) ts

@@ -4,12 +4,12 @@ use Rattle.std.specs.Prelude.{nat_eq, nat_lt, ◌||◌}
 use Rattle.std.proofs.lemmas.Bool.{eqb-true, ltb-true, ltb-false}
 use Rattle.std.proofs.lemmas.List.{take-append-drop}
 use Rattle.c_type.specs.Names.{pick}
-use Rattle.c_type.specs.Tokens.{Tok, int, marks}
-use Rattle.c_type.specs.Tokens as t
-use Rattle.c_type.specs.Bytes.{is_white, is_digit, begins_name, is_name_byte, is_run_byte, is_letter, begins, are}
-use Rattle.c_type.specs.Pieces.{Piece, white, name, number, comment, text, mark, piece_bytes, IsPiece, token_of, word_from, name_or_word, number_value, is_long}
-use Rattle.c_type.specs.Pieces as p
-use Rattle.c_type.specs.Falls.{IsBadByte, IsBadRun, IsTooLarge, IsOpenComment, IsOpenText, is_mark_in, begins_piece}
+use Rattle.c_lex.specs.Tokens.{Tok, int, marks}
+use Rattle.c_lex.specs.Tokens as t
+use Rattle.c_lex.specs.Bytes.{is_white, is_digit, begins_name, is_name_byte, is_run_byte, is_letter, begins, are}
+use Rattle.c_lex.specs.Pieces.{Piece, white, name, number, comment, text, mark, piece_bytes, IsPiece, token_of, word_from, name_or_word, number_value, is_long}
+use Rattle.c_lex.specs.Pieces as p
+use Rattle.c_lex.specs.Falls.{IsBadByte, IsBadRun, IsTooLarge, IsOpenComment, IsOpenText, is_mark_in, begins_piece}
 use Rattle.c_lex.specs.Reading as r
 use Rattle.c_lex.specs.Reading.{Front, found, bad_byte, too_large, open_comment, open_text, front, run_length, name_front, number_front, number_of, chr_front, text_front, other_front, comment_front, mark_front, mark_from, begins_comment, eat, ◌>>=◌}
 use Rattle.c_lex.proofs.Runs.{run_take, run_drop, run_first}

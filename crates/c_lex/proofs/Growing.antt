@@ -4,10 +4,10 @@ use Rattle.std.specs.Prelude.{nat_le, ◌&&◌}
 use Rattle.std.proofs.lemmas.Bool.{and_parts, leb-true}
 use Rattle.std.proofs.lemmas.List.{length-append, take_at}
 use Rattle.c_type.specs.Names.{at_or}
-use Rattle.c_type.specs.Tokens.{Tok, Token, marks}
-use Rattle.c_type.specs.Bytes.{newlines, begins, begins_name, is_between}
-use Rattle.c_type.specs.Pieces.{Piece, white, name, number, comment, text, mark, chr, piece_bytes, IsPiece, token_of, Number, decimal, octal, hexadecimal, number_bytes, suffix_bytes, IsNumber}
-use Rattle.c_type.specs.Falls.{Falls, IsBad, ArePieces, spelled, tokens_from, line_after, with_token}
+use Rattle.c_lex.specs.Tokens.{Tok, Token, marks}
+use Rattle.c_lex.specs.Bytes.{newlines, begins, begins_name, is_between}
+use Rattle.c_lex.specs.Pieces.{Piece, white, name, number, comment, text, mark, chr, piece_bytes, IsPiece, token_of, Number, decimal, octal, hexadecimal, number_bytes, suffix_bytes, IsNumber}
+use Rattle.c_lex.specs.Falls.{Falls, IsBad, ArePieces, spelled, tokens_from, line_after, with_token}
 use Rattle.c_lex.specs.Refusals.{HasRead}
 use Rattle.c_lex.proofs.Fronts.{PieceAt}
 

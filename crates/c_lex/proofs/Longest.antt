@@ -6,9 +6,9 @@ use Rattle.std.proofs.lemmas.Bool.{and_parts, not-true, false_from_ne_true}
 use Rattle.std.proofs.lemmas.List.{take_at, drop_at}
 use Rattle.std.proofs.lemmas.Slice.Eq.{bytes_eq-Decides}
 use Rattle.c_type.specs.Names.{at_or, pick, same_name}
-use Rattle.c_type.specs.Tokens.{marks}
-use Rattle.c_type.specs.Bytes.{begins}
-use Rattle.c_type.specs.Pieces.{IsLongest}
+use Rattle.c_lex.specs.Tokens.{marks}
+use Rattle.c_lex.specs.Bytes.{begins}
+use Rattle.c_lex.specs.Pieces.{IsLongest}
 use Rattle.c_lex.specs.Reading.{mark_from, begins_comment}
 use Rattle.c_lex.proofs.Fits.{FirstAt, NoneFits, fits_of, mark_at}
 use Rattle.c_lex.proofs.Fronts.{comment_here}

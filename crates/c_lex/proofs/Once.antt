@@ -1,10 +1,10 @@
 -- A text is read in one way, up to its end or to what is bad in it.
 use Rattle.std.proofs.Common.{◌≡◌, ℕ, zero, suc, ◌+◌, ◌-◌, ◌<◌, ◌≤◌, ◌⊎◌, inl, inr, List, [], ◌∷◌, ◌++◌, length, take, Option, None, Bool, true, false, refl, sym, ap, ◌∙◌, subst, arith}
 use Rattle.std.proofs.lemmas.List.{append_cancel_right}
-use Rattle.c_type.specs.Tokens.{Tok, Token}
-use Rattle.c_type.specs.Bytes.{newlines}
-use Rattle.c_type.specs.Pieces.{Piece, piece_bytes, token_of}
-use Rattle.c_type.specs.Falls.{Falls, ArePieces, spelled, tokens_from, line_after, with_token, IsBad, IsBadByte, IsTooLarge, IsOpenComment, IsOpenText}
+use Rattle.c_lex.specs.Tokens.{Tok, Token}
+use Rattle.c_lex.specs.Bytes.{newlines}
+use Rattle.c_lex.specs.Pieces.{Piece, piece_bytes, token_of}
+use Rattle.c_lex.specs.Falls.{Falls, ArePieces, spelled, tokens_from, line_after, with_token, IsBad, IsBadByte, IsTooLarge, IsOpenComment, IsOpenText}
 use Rattle.c_lex.specs.declared.reader.LexErr.{LexErr}
 use Rattle.c_lex.specs.declared.reader.LexErr.TheVariants.{BadByte, OpenComment, OpenText, NumberTooLarge, Memory}
 use Rattle.c_lex.specs.Reading.{Front, found, bad_byte, too_large, open_comment, open_text, front}

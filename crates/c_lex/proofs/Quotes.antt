@@ -3,9 +3,9 @@ use Rattle.std.proofs.Common.{◌≡◌, ℕ, zero, suc, ◌+◌, ◌-◌, ◌*�
 use Rattle.std.specs.Prelude.{nat_eq, ◌||◌}
 use Rattle.std.proofs.lemmas.Bool.{and_from, and_parts, eqb-true}
 use Rattle.c_type.specs.Names.{pick}
-use Rattle.c_type.specs.Bytes.{is_between, is_octal, digit_value, value_from, are, begins}
-use Rattle.c_type.specs.Pieces.{Item, plain, code, item_bytes, item_value, items_bytes, IsItem, AreItems, escaped}
-use Rattle.c_type.specs.Pieces as p
+use Rattle.c_lex.specs.Bytes.{is_between, is_octal, digit_value, value_from, are, begins}
+use Rattle.c_lex.specs.Pieces.{Item, plain, code, item_bytes, item_value, items_bytes, IsItem, AreItems, escaped}
+use Rattle.c_lex.specs.Pieces as p
 use Rattle.c_lex.proofs.Between.{between_is, is_between_of}
 use Rattle.c_lex.specs.Reading.{octal_from, octal_by, escape, item}
 

@@ -2,7 +2,7 @@
 use Rattle.std.proofs.Common.{◌≡◌, ℕ, ◌+◌, List, [], ◌∷◌, take, drop, Bool, true, false, refl, add-one}
 use Rattle.std.proofs.lemmas.Bool.{and_from}
 use Rattle.c_type.specs.Names.{pick}
-use Rattle.c_type.specs.Bytes.{are, begins}
+use Rattle.c_lex.specs.Bytes.{are, begins}
 use Rattle.c_lex.specs.Reading.{run_length}
 
 take_by : (p : ℕ → Bool) (b n : ℕ) (bs : List ℕ) (t : Bool) → p b ≡ t → are p (take n bs) ≡ true → are p (take (pick t (n + 1) 0) (b ∷ bs)) ≡ true

@@ -1,7 +1,7 @@
 -- From what the code answers at the front of a text to what stands there.
 use Rattle.std.proofs.Common.{◌≡◌, ℕ, ◌<◌, List, [], ◌∷◌, length, Option, subst, arith}
-use Rattle.c_type.specs.Tokens.{Tok, Token}
-use Rattle.c_type.specs.Falls.{IsBadByte, IsTooLarge, IsOpenComment, IsOpenText}
+use Rattle.c_lex.specs.Tokens.{Tok, Token}
+use Rattle.c_lex.specs.Falls.{IsBadByte, IsTooLarge, IsOpenComment, IsOpenText}
 use Rattle.c_lex.specs.declared.pieces.Fault.{Fault}
 use Rattle.c_lex.specs.declared.pieces.Fault.TheVariants.{Byte, Large, Comment, Quoted, Memory}
 use Rattle.c_lex.specs.Reading.{found, front}

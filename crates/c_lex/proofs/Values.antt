@@ -3,8 +3,8 @@ use Rattle.std.proofs.Common.{◌≡◌, ℕ, zero, suc, ◌+◌, ◌*◌, ◌<�
 use Rattle.std.specs.Prelude.{nat_eq, ◌||◌}
 use Rattle.std.proofs.lemmas.Bool.{and_from, and_parts, eqb-true, eqb-false, or_cases, ne_eqb, cases_lt}
 use Rattle.c_type.specs.Names.{pick}
-use Rattle.c_type.specs.Bytes.{is_between, is_digit, is_octal, is_hexadecimal, digit_value, value_from, are, begins}
-use Rattle.c_type.specs.Pieces.{Number, decimal, octal, hexadecimal, number_bytes, number_value, IsNumber, suffix_bytes, IsSuffix, is_long}
+use Rattle.c_lex.specs.Bytes.{is_between, is_digit, is_octal, is_hexadecimal, digit_value, value_from, are, begins}
+use Rattle.c_lex.specs.Pieces.{Number, decimal, octal, hexadecimal, number_bytes, number_value, IsNumber, suffix_bytes, IsSuffix, is_long}
 use Rattle.c_lex.specs.Reading.{digits, more_digits, ended, is_suffix, is_digit_of, after_x, after_zero, number}
 use Rattle.c_lex.proofs.Between.{between_is, is_between_of}
 

@@ -1,7 +1,7 @@
 -- The laws of tokens: a text falls into one list of tokens, or it is refused in one way.
 use Rattle.std.specs.Prelude.{◌≡◌, ◌≢◌, ◌⊎◌, ℕ, List}
-use Rattle.c_type.specs.Tokens.{Token}
-use Rattle.c_type.specs.Falls.{Falls}
+use Rattle.c_lex.specs.Tokens.{Token}
+use Rattle.c_lex.specs.Falls.{Falls}
 use Rattle.c_lex.specs.Refusals.{Refuses}
 use Rattle.c_lex.specs.declared.reader.LexErr.{LexErr}
 use Rattle.c_lex.specs.declared.reader.LexErr.TheVariants.{Memory}

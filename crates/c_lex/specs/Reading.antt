@@ -2,10 +2,10 @@
 use Rattle.std.specs.Prelude.{ℕ, zero, suc, ◌+◌, ◌-◌, ◌*◌, ◌%◌, min, List, [], ◌∷◌, ◌++◌, length, take, drop, Bool, true, false, ◌&&◌, ◌||◌, nat_eq, nat_lt, Option, Some, None}
 use Rattle.std.specs.List.{starts_with}
 use Rattle.c_type.specs.Names.{pick}
-use Rattle.c_type.specs.Tokens.{Tok, int, word, words, marks}
-use Rattle.c_type.specs.Tokens as t
-use Rattle.c_type.specs.Bytes.{is_white, is_digit, is_octal, is_hexadecimal, begins_name, is_name_byte, is_run_byte, begins, digit_value}
-use Rattle.c_type.specs.Pieces.{escaped, name_or_word, word_from}
+use Rattle.c_lex.specs.Tokens.{Tok, int, word, words, marks}
+use Rattle.c_lex.specs.Tokens as t
+use Rattle.c_lex.specs.Bytes.{is_white, is_digit, is_octal, is_hexadecimal, begins_name, is_name_byte, is_run_byte, begins, digit_value}
+use Rattle.c_lex.specs.Pieces.{escaped, name_or_word, word_from}
 
 infixl 10 ◌>>=◌
 abbrev pub ◌>>=◌ : {A B : Type 0} → Option A → (A → Option B) → Option B

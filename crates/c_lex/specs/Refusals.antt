@@ -1,8 +1,8 @@
 -- What a refusal says of a text.
 use Rattle.std.specs.Prelude.{◌≡◌, ℕ, List}
-use Rattle.c_type.specs.Tokens.{Token}
-use Rattle.c_type.specs.Pieces.{Piece}
-use Rattle.c_type.specs.Falls.{IsBad, IsBadByte, IsTooLarge, IsOpenComment, IsOpenText, ArePieces, spelled, tokens_from, line_after}
+use Rattle.c_lex.specs.Tokens.{Token}
+use Rattle.c_lex.specs.Pieces.{Piece}
+use Rattle.c_lex.specs.Falls.{IsBad, IsBadByte, IsTooLarge, IsOpenComment, IsOpenText, ArePieces, spelled, tokens_from, line_after}
 use Rattle.c_lex.specs.declared.pieces.Fault.{Fault}
 use Rattle.c_lex.specs.declared.pieces.Fault.TheVariants as f
 use Rattle.c_lex.specs.declared.pieces.Fault.TheVariants.{Byte, Large, Comment, Quoted}

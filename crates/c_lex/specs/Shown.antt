@@ -1,7 +1,7 @@
 -- What the code answers at the front of a text, against what stands there.
 use Rattle.std.specs.Prelude.{◌≡◌, List, map, Option, Result, Ok, Err}
 use Rattle.std.specs.Option.{option_map}
-use Rattle.c_type.specs.Tokens as t
+use Rattle.c_lex.specs.Tokens as t
 use Rattle.c_lex.specs.declared.Tok.{Tok}
 use Rattle.c_lex.specs.declared.Tok.TheVariants.{Name, Int, Chr, Text, Word, Mark}
 use Rattle.c_lex.specs.declared.Token.{Token}

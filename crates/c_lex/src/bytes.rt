@@ -1,6 +1,6 @@
 // Kinds of bytes.
 ghost use Rattle.std.specs.Prelude.{◌≡◌, ◌≤◌, length};
-ghost use Rattle.c_type.specs.Bytes as b;
+ghost use Rattle.c_lex.specs.Bytes as b;
 ghost use Rattle.c_lex.specs.Reading as r;
 
 /// Blank, tab, newline, vertical tab, form feed or carriage return.

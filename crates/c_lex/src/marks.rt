@@ -1,8 +1,8 @@
 // The words and the marks of the language, by their places in its lists.
 ghost use Rattle.std.specs.Prelude.{◌≡◌, ◌≤◌, map, length};
 ghost use Rattle.std.specs.Option.{option_map};
-ghost use Rattle.c_type.specs.Pieces.{word_from};
-ghost use Rattle.c_type.specs.Tokens as t;
+ghost use Rattle.c_lex.specs.Pieces.{word_from};
+ghost use Rattle.c_lex.specs.Tokens as t;
 ghost use Rattle.c_lex.specs.Reading as r;
 
 static WORDS: [&[u8]; 30] = [

@@ -1,7 +1,7 @@
 // The piece of a text that stands at its front.
 ghost use Rattle.std.specs.Prelude.{◌≡◌, ◌+◌, length, []};
 ghost use Rattle.std.specs.Option.{option_map};
-ghost use Rattle.c_type.specs.Bytes as b;
+ghost use Rattle.c_lex.specs.Bytes as b;
 ghost use Rattle.c_lex.specs.Reading as r;
 ghost use Rattle.c_lex.specs.Shown.{Shows};
 

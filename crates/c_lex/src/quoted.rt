@@ -1,7 +1,7 @@
 // Characters and texts, behind their first mark.
 ghost use Rattle.std.specs.Prelude.{◌≡◌, ◌≤◌, ◌+◌, length, IfOk, IfSome, []};
 ghost use Rattle.std.specs.Option.{option_map};
-ghost use Rattle.c_type.specs.Pieces as p;
+ghost use Rattle.c_lex.specs.Pieces as p;
 ghost use Rattle.c_lex.specs.Reading as r;
 
 use crate::bytes::is_octal;

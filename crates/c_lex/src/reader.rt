@@ -1,6 +1,6 @@
 // The tokens of a whole text.
 ghost use Rattle.std.specs.Prelude.{◌≡◌, ◌<◌, ◌++◌, [], length, map, IfOk, IfErr};
-ghost use Rattle.c_type.specs.Falls.{Falls, with_token};
+ghost use Rattle.c_lex.specs.Falls.{Falls, with_token};
 ghost use Rattle.c_lex.specs.Shown.{token_of, tokens_of, shown};
 ghost use Rattle.c_lex.specs.Refusals.{Refuses, refusal};
 

@@ -2,11 +2,11 @@
 use Rattle.std.proofs.Common.{◌≡◌, ℕ, List, [], ◌∷◌, Some, None, Result, Ok, Err, IfOk, Bool, true, false, nat_lt, refl, arith}
 use Rattle.std.proofs.lemmas.Bool.{ltb-false, ltb-true}
 use Rattle.c_type.specs.Names.{pick}
-use Rattle.c_type.specs.Tokens.{Token}
+use Rattle.c_lex.specs.Tokens.{Token}
 use Rattle.c_tree.specs.TreeUnit as t
 use Rattle.c_tree.specs.TreeOf.{unit_of}
 use Rattle.c_tree.specs.declared.unit.Unit.{Unit as RustUnit}
-use Rattle.c_tree.specs.Reads.{most, opened, AreShallow, ReadsTokens}
+use Rattle.c_grammar.specs.Reads.{most, opened, AreShallow, ReadsTokens}
 use Rattle.c_expr.specs.declared.error.ParseErr.{ParseErr}
 use Rattle.c_expr.specs.declared.error.ParseErr.TheVariants.{TooDeep, NotC, Memory}
 use Rattle.c_expr.specs.Answer.{OnNotC}

@@ -1,13 +1,13 @@
 -- The tokens behind a declaration are those from a place on.
 use Rattle.std.proofs.Common.{◌≡◌, ℕ, ◌+◌, ◌≤◌, true, List, [], ◌∷◌, length, drop, Option, Some, None, sym, ◌∙◌, drop-drop}
-use Rattle.c_type.specs.Tokens.{Token}
-use Rattle.c_tree.specs.Words.{Separated, After, spell_others, spell_separated, mark, open_round, close_round, open_square, close_square, open_brace, close_brace, semicolon}
-use Rattle.c_tree.specs.WrittenExpr as w
-use Rattle.c_tree.specs.WrittenDeclr as d
-use Rattle.c_tree.specs.WrittenSpecs as p
-use Rattle.c_tree.specs.WrittenDecl as l
-use Rattle.c_tree.specs.WrittenUnit as u
-use Rattle.c_tree.specs.Reads.{is_declaration}
+use Rattle.c_lex.specs.Tokens.{Token}
+use Rattle.c_grammar.specs.Words.{Separated, After, spell_others, spell_separated, mark, open_round, close_round, open_square, close_square, open_brace, close_brace, semicolon}
+use Rattle.c_grammar.specs.WrittenExpr as w
+use Rattle.c_grammar.specs.WrittenDeclr as d
+use Rattle.c_grammar.specs.WrittenSpecs as p
+use Rattle.c_grammar.specs.WrittenDecl as l
+use Rattle.c_grammar.specs.WrittenUnit as u
+use Rattle.c_grammar.specs.Reads.{is_declaration}
 use Rattle.c_decl.proofs.Behind.{Behind, here, next, beyond, within, part_behind, expr_behind}
 
 -- what is spelled stands before the others

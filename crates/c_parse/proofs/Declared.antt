@@ -1,11 +1,11 @@
 -- A declaration that stands at a place is read there.
 use Rattle.std.proofs.Common.{◌≡◌, ℕ, ◌≤◌, List, drop, Option, Some, None, Result, Ok, Err, IfOk, arith, refl, ap, sym, subst, ◌∙◌}
 use Rattle.c_type.specs.Names.{Name}
-use Rattle.c_type.specs.Tokens.{Token}
+use Rattle.c_lex.specs.Tokens.{Token}
 use Rattle.c_tree.specs.TreeDecl.{LocalDecl, local_depth}
 use Rattle.c_tree.specs.TreeOf.{local_of}
 use Rattle.c_tree.specs.declared.decl.LocalDecl.{LocalDecl as RustLocal}
-use Rattle.c_tree.specs.Reads.{most, IsLocalAt}
+use Rattle.c_grammar.specs.Reads.{most, IsLocalAt}
 use Rattle.c_lex.specs.Shown.{tokens_of}
 use Rattle.c_expr.specs.declared.error.ParseErr.{ParseErr}
 use Rattle.c_expr.specs.declared.error.ParseErr.TheVariants.{TooDeep, NotC, Memory}

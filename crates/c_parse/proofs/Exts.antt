@@ -2,9 +2,9 @@
 use Rattle.std.proofs.Common.{◌≡◌, ℕ, ◌≤◌, suc, List, [], ◌∷◌, ◌++◌, length, Option, Some, None, refl, arith, ap, sym, ◌∙◌, append_assoc}
 use Rattle.std.proofs.lemmas.List.{append-nil}
 use Rattle.c_type.specs.Names.{Name}
-use Rattle.c_type.specs.Tokens.{Token}
+use Rattle.c_lex.specs.Tokens.{Token}
 use Rattle.c_tree.specs.TreeUnit.{Ext}
-use Rattle.c_tree.specs.WrittenUnit.{with_typedefs}
+use Rattle.c_grammar.specs.WrittenUnit.{with_typedefs}
 use Rattle.c_expr.specs.Front.{◌>>=◌}
 use Rattle.c_parse.specs.ReadUnit as q
 use Rattle.c_parse.specs.Units as u

@@ -1,6 +1,6 @@
 -- The laws of reading a unit.
 use Rattle.std.proofs.Common.{◌≡◌, subst}
-use Rattle.c_tree.specs.Reads.{ReadsTokens}
+use Rattle.c_grammar.specs.Reads.{ReadsTokens}
 use Rattle.c_lex.proofs.Once.{falls_once}
 use Rattle.c_decl.specs.Expression.{expression}
 use Rattle.c_decl.proofs.Expressions.{expr_again, expr_takes}

@@ -1,12 +1,12 @@
 -- What stands outside of blocks at a place is read there.
 use Rattle.std.proofs.Common.{◌≡◌, ℕ, ◌≤◌, List, drop, Option, Some, None, Result, Ok, Err, IfOk, true, refl, arith, ap, sym, subst, ◌∙◌}
 use Rattle.c_type.specs.Names.{Name}
-use Rattle.c_type.specs.Tokens.{Token}
-use Rattle.c_tree.specs.Words.{open_brace}
+use Rattle.c_lex.specs.Tokens.{Token}
+use Rattle.c_grammar.specs.Words.{open_brace}
 use Rattle.c_tree.specs.TreeUnit.{Ext, FuncHead, ext_depth, head_depth}
 use Rattle.c_tree.specs.TreeOf.{ext_of}
 use Rattle.c_tree.specs.declared.unit.Ext.{Ext as RustExt}
-use Rattle.c_tree.specs.Reads.{most, IsDeclarationAt, IsHeadAt, begins_block}
+use Rattle.c_grammar.specs.Reads.{most, IsDeclarationAt, IsHeadAt, begins_block}
 use Rattle.c_lex.specs.Shown.{tokens_of}
 use Rattle.c_expr.specs.Front.{eat}
 use Rattle.c_expr.specs.declared.error.ParseErr.{ParseErr}

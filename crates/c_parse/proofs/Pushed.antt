@@ -1,8 +1,8 @@
 -- What a loop has read, in front of what is still to be read.
 use Rattle.std.proofs.Common.{◌≡◌, ℕ, suc, List, [], ◌∷◌, ◌++◌, map, Option, Some, None, is_some, true, false, refl, ap, sym}
 use Rattle.std.specs.Option.{option_map}
-use Rattle.c_type.specs.Tokens.{Token}
-use Rattle.c_tree.specs.Words.{close_brace}
+use Rattle.c_lex.specs.Tokens.{Token}
+use Rattle.c_grammar.specs.Words.{close_brace}
 use Rattle.c_tree.specs.declared.decl.LocalDecl.{LocalDecl}
 use Rattle.c_tree.specs.declared.stmt.Stmt.{Stmt}
 use Rattle.c_tree.specs.declared.stmt.SwItem.{SwItem}

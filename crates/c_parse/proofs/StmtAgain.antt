@@ -2,22 +2,22 @@
 use Rattle.std.proofs.Common.{◌≡◌, ℕ, ◌+◌, ◌<◌, ◌≤◌, zero, suc, List, [], ◌∷◌, length, map, Option, Some, None, Bool, true, false, refl, arith, ap, sym, ◌∙◌, true≢false}
 use Rattle.std.proofs.lemmas.Bool.{eqb-true}
 use Rattle.c_type.specs.Names.{Name, pick}
-use Rattle.c_type.specs.Tokens.{Tok, Token}
-use Rattle.c_type.specs.Tokens as k
-use Rattle.c_tree.specs.Words.{mark, word, case_word, default_word, else_word, while_word, open_round, close_round, open_brace, close_brace, semicolon, colon}
+use Rattle.c_lex.specs.Tokens.{Tok, Token}
+use Rattle.c_lex.specs.Tokens as k
+use Rattle.c_grammar.specs.Words.{mark, word, case_word, default_word, else_word, while_word, open_round, close_round, open_brace, close_brace, semicolon, colon}
 use Rattle.c_tree.specs.TreeExpr.{Expr, expr_depth, deepest, optional}
 use Rattle.c_tree.specs.TreeDecl.{local_depth}
 use Rattle.c_tree.specs.TreeStmt.{Stmt, Stmts, SwItem, SwItems, Block, stmt_depth, stmts_depth, item_depth, items_depth, block_depth}
 use Rattle.c_tree.specs.TreeStmt as t
-use Rattle.c_tree.specs.WrittenType.{word_part, tag_part, name_part, is_typedef}
-use Rattle.c_tree.specs.WrittenExpr.{Written, IsAtLevel, IsLevelled}
-use Rattle.c_tree.specs.WrittenExpr as w
-use Rattle.c_tree.specs.WrittenDeclr.{plain_if, IfThere, spell_if}
-use Rattle.c_tree.specs.WrittenDecl.{WrittenLocal, LocalPart, plain_local, IsLocal, AreLocalParts, is_none, spell_local, spell_local_parts}
-use Rattle.c_tree.specs.WrittenDecl as l
-use Rattle.c_tree.specs.WrittenStmt.{WrittenStmt, WrittenStmts, WrittenItem, WrittenItems, WrittenBlock, plain_stmt, plain_stmts, plain_item, plain_items, plain_block, is_open, AreLocals, IsStmt, AreStmts, IsItem, AreItems, IsBlock, spell_locals, spell_stmt, spell_stmts, spell_item, spell_items}
-use Rattle.c_tree.specs.WrittenStmt as z
-use Rattle.c_tree.specs.Reads.{may_follow}
+use Rattle.c_grammar.specs.WrittenType.{word_part, tag_part, name_part, is_typedef}
+use Rattle.c_grammar.specs.WrittenExpr.{Written, IsAtLevel, IsLevelled}
+use Rattle.c_grammar.specs.WrittenExpr as w
+use Rattle.c_grammar.specs.WrittenDeclr.{plain_if, IfThere, spell_if}
+use Rattle.c_grammar.specs.WrittenDecl.{WrittenLocal, LocalPart, plain_local, IsLocal, AreLocalParts, is_none, spell_local, spell_local_parts}
+use Rattle.c_grammar.specs.WrittenDecl as l
+use Rattle.c_grammar.specs.WrittenStmt.{WrittenStmt, WrittenStmts, WrittenItem, WrittenItems, WrittenBlock, plain_stmt, plain_stmts, plain_item, plain_items, plain_block, is_open, AreLocals, IsStmt, AreStmts, IsItem, AreItems, IsBlock, spell_locals, spell_stmt, spell_stmts, spell_item, spell_items}
+use Rattle.c_grammar.specs.WrittenStmt as z
+use Rattle.c_grammar.specs.Reads.{may_follow}
 use Rattle.c_expr.specs.Front.{Read, eat, eat_word, line_at}
 use Rattle.c_decl.specs.ReadSpecs.{start_of, start_at, word_start}
 use Rattle.c_decl.specs.ReadSpecs as s

@@ -2,20 +2,20 @@
 use Rattle.std.proofs.Common.{◌≡◌, ℕ, ◌≤◌, zero, suc, List, [], ◌∷◌, length, map, Option, Some, None, Bool, true, false, nat_eq, refl, arith, ap, sym, ◌∙◌, true≢false}
 use Rattle.std.proofs.lemmas.Bool.{eqb-true}
 use Rattle.c_type.specs.Names.{Name, pick}
-use Rattle.c_type.specs.Tokens.{Tok, Token}
-use Rattle.c_type.specs.Tokens as k
-use Rattle.c_tree.specs.Words.{tok, mark, word, if_word, while_word, do_word, for_word, switch_word, break_word, continue_word, return_word, case_word, default_word, else_word, open_round, close_round, open_brace, close_brace, semicolon, colon}
+use Rattle.c_lex.specs.Tokens.{Tok, Token}
+use Rattle.c_lex.specs.Tokens as k
+use Rattle.c_grammar.specs.Words.{tok, mark, word, if_word, while_word, do_word, for_word, switch_word, break_word, continue_word, return_word, case_word, default_word, else_word, open_round, close_round, open_brace, close_brace, semicolon, colon}
 use Rattle.c_tree.specs.TreeExpr.{Expr, expr_depth}
 use Rattle.c_tree.specs.TreeDecl.{LocalDecl}
 use Rattle.c_tree.specs.TreeStmt.{Stmt, Stmts, SwItem, SwItems, Block}
 use Rattle.c_tree.specs.TreeStmt as t
-use Rattle.c_tree.specs.WrittenExpr.{Written, IsAtLevel}
-use Rattle.c_tree.specs.WrittenExpr as w
-use Rattle.c_tree.specs.WrittenDeclr.{plain_if, IfThere, spell_if}
-use Rattle.c_tree.specs.WrittenDecl.{WrittenLocal, plain_local, spell_local}
-use Rattle.c_tree.specs.WrittenStmt.{WrittenStmt, WrittenStmts, WrittenItem, WrittenItems, plain_stmt, plain_stmts, plain_item, plain_items, is_open, AreLocals, IsStmt, AreStmts, IsItem, AreItems, spell_locals, spell_stmt, spell_stmts, spell_item, spell_items}
-use Rattle.c_tree.specs.WrittenStmt as z
-use Rattle.c_tree.specs.Reads.{Spells}
+use Rattle.c_grammar.specs.WrittenExpr.{Written, IsAtLevel}
+use Rattle.c_grammar.specs.WrittenExpr as w
+use Rattle.c_grammar.specs.WrittenDeclr.{plain_if, IfThere, spell_if}
+use Rattle.c_grammar.specs.WrittenDecl.{WrittenLocal, plain_local, spell_local}
+use Rattle.c_grammar.specs.WrittenStmt.{WrittenStmt, WrittenStmts, WrittenItem, WrittenItems, plain_stmt, plain_stmts, plain_item, plain_items, is_open, AreLocals, IsStmt, AreStmts, IsItem, AreItems, spell_locals, spell_stmt, spell_stmts, spell_item, spell_items}
+use Rattle.c_grammar.specs.WrittenStmt as z
+use Rattle.c_grammar.specs.Reads.{Spells}
 use Rattle.c_expr.specs.Front.{Read, ◌>>=◌, eat, eat_word, line_at}
 use Rattle.c_decl.specs.ReadSpecs.{start_at}
 use Rattle.c_decl.specs.ReadDecl as d

@@ -1,7 +1,7 @@
 -- A `switch` is read from its parts.
 use Rattle.std.proofs.Common.{◌≡◌, ℕ, ◌+◌, suc, List, length, Some, refl, arith, ap, ◌∙◌}
-use Rattle.c_type.specs.Tokens.{Token}
-use Rattle.c_tree.specs.Words.{open_brace, close_brace}
+use Rattle.c_lex.specs.Tokens.{Token}
+use Rattle.c_grammar.specs.Words.{open_brace, close_brace}
 use Rattle.c_tree.specs.TreeExpr.{Expr}
 use Rattle.c_tree.specs.TreeStmt as t
 use Rattle.c_expr.specs.Front.{eat}

@@ -2,17 +2,17 @@
 use Rattle.std.proofs.Common.{◌≡◌, ℕ, ◌+◌, ◌<◌, ◌≤◌, zero, suc, List, [], ◌∷◌, length, map, Some, true, refl, arith, ap, sym, subst, ◌∙◌}
 use Rattle.std.proofs.lemmas.Bool.{le-ltb}
 use Rattle.c_type.specs.Names.{Name}
-use Rattle.c_type.specs.Tokens.{Token}
-use Rattle.c_tree.specs.Words.{mark, close_brace}
+use Rattle.c_lex.specs.Tokens.{Token}
+use Rattle.c_grammar.specs.Words.{mark, close_brace}
 use Rattle.c_tree.specs.TreeExpr.{Expr, expr_depth, deepest}
 use Rattle.c_tree.specs.TreeUnit.{Ext, ext_depth, head_depth, unit_depth}
 use Rattle.c_tree.specs.TreeUnit as t
-use Rattle.c_tree.specs.WrittenExpr.{Written, IsAtLevel}
-use Rattle.c_tree.specs.WrittenExpr as w
-use Rattle.c_tree.specs.WrittenStmt.{WrittenBlock, spell_stmts, spell_block}
-use Rattle.c_tree.specs.WrittenUnit.{WrittenExt, plain_ext, plain_head, IsExt, AreExts, spell_ext, spell_exts, with_typedefs, plain_unit}
-use Rattle.c_tree.specs.WrittenUnit as u
-use Rattle.c_tree.specs.Reads.{may_follow, most, ReadsTokens}
+use Rattle.c_grammar.specs.WrittenExpr.{Written, IsAtLevel}
+use Rattle.c_grammar.specs.WrittenExpr as w
+use Rattle.c_grammar.specs.WrittenStmt.{WrittenBlock, spell_stmts, spell_block}
+use Rattle.c_grammar.specs.WrittenUnit.{WrittenExt, plain_ext, plain_head, IsExt, AreExts, spell_ext, spell_exts, with_typedefs, plain_unit}
+use Rattle.c_grammar.specs.WrittenUnit as u
+use Rattle.c_grammar.specs.Reads.{may_follow, most, ReadsTokens}
 use Rattle.c_expr.specs.Front.{Read, ◌>>=◌}
 use Rattle.c_expr.proofs.Taken.{some_is}
 use Rattle.c_decl.proofs.OutsideAgain.{whole_again, head_again, ext_longer}

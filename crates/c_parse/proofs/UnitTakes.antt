@@ -2,17 +2,17 @@
 use Rattle.std.proofs.Common.{◌≡◌, ℕ, ◌≤◌, zero, suc, List, [], ◌∷◌, length, map, Some, None, true, nat_lt, refl, arith, ap, sym, subst, ◌∙◌, inl, inr}
 use Rattle.std.proofs.lemmas.Bool.{ltb-false}
 use Rattle.c_type.specs.Names.{Name}
-use Rattle.c_type.specs.Tokens.{Token}
-use Rattle.c_tree.specs.Words.{mark, open_brace}
+use Rattle.c_lex.specs.Tokens.{Token}
+use Rattle.c_grammar.specs.Words.{mark, open_brace}
 use Rattle.c_tree.specs.TreeExpr.{Expr, expr_depth}
 use Rattle.c_tree.specs.TreeStmt.{Block}
 use Rattle.c_tree.specs.TreeUnit.{Ext, unit_depth}
 use Rattle.c_tree.specs.TreeUnit as t
-use Rattle.c_tree.specs.WrittenExpr.{Written, IsAtLevel}
-use Rattle.c_tree.specs.WrittenExpr as w
-use Rattle.c_tree.specs.WrittenUnit.{WrittenExt, plain_ext, plain_head, IsExt, AreExts, spell_ext, spell_head, spell_exts, with_typedefs, plain_unit}
-use Rattle.c_tree.specs.WrittenUnit as u
-use Rattle.c_tree.specs.Reads.{may_follow, most, Spells, AreShallow, ReadsTokens}
+use Rattle.c_grammar.specs.WrittenExpr.{Written, IsAtLevel}
+use Rattle.c_grammar.specs.WrittenExpr as w
+use Rattle.c_grammar.specs.WrittenUnit.{WrittenExt, plain_ext, plain_head, IsExt, AreExts, spell_ext, spell_head, spell_exts, with_typedefs, plain_unit}
+use Rattle.c_grammar.specs.WrittenUnit as u
+use Rattle.c_grammar.specs.Reads.{may_follow, most, Spells, AreShallow, ReadsTokens}
 use Rattle.c_expr.specs.Front.{Read, ◌>>=◌, eat, line_at}
 use Rattle.c_decl.specs.ReadDecl.{Outside, outside}
 use Rattle.c_decl.specs.ReadDecl as d

@@ -1,8 +1,8 @@
 -- The laws that join reading a unit to its spellings.
 use Rattle.std.specs.Prelude.{◌≡◌, ℕ, List, Some}
-use Rattle.c_type.specs.Tokens.{Token}
+use Rattle.c_lex.specs.Tokens.{Token}
 use Rattle.c_tree.specs.TreeUnit as t
-use Rattle.c_tree.specs.Reads.{most, Reads, ReadsTokens, AreShallow}
+use Rattle.c_grammar.specs.Reads.{most, Reads, ReadsTokens, AreShallow}
 use Rattle.c_decl.specs.Expression.{expression}
 use Rattle.c_parse.specs.ReadUnit.{unit}
 

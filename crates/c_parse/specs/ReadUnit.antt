@@ -1,12 +1,12 @@
 -- From tokens to a unit.
 use Rattle.std.specs.Prelude.{ℕ, zero, suc, List, [], ◌∷◌, length, nat_lt, Option, Some, None}
 use Rattle.c_type.specs.Names.{Name, pick}
-use Rattle.c_type.specs.Tokens.{Token}
-use Rattle.c_tree.specs.Words.{open_brace}
+use Rattle.c_lex.specs.Tokens.{Token}
+use Rattle.c_grammar.specs.Words.{open_brace}
 use Rattle.c_tree.specs.TreeExpr.{Expr}
 use Rattle.c_tree.specs.TreeUnit.{Ext, unit_depth}
 use Rattle.c_tree.specs.TreeUnit as u
-use Rattle.c_tree.specs.WrittenUnit.{with_typedefs}
+use Rattle.c_grammar.specs.WrittenUnit.{with_typedefs}
 use Rattle.c_expr.specs.Front.{Read, ◌>>=◌, eat, line_at}
 use Rattle.c_decl.specs.ReadDecl.{Outside, whole, head, outside}
 use Rattle.c_parse.specs.ReadStmt as s

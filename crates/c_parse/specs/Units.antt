@@ -1,9 +1,9 @@
 -- What the parser of units answers.
 use Rattle.std.specs.Prelude.{ℕ, List, [], ◌∷◌, nat_lt, Option, Some, None, Result, Ok, Err}
 use Rattle.c_type.specs.Names.{Name, pick}
-use Rattle.c_type.specs.Tokens.{Token}
+use Rattle.c_lex.specs.Tokens.{Token}
 use Rattle.c_tree.specs.TreeUnit.{Ext, FuncHead}
-use Rattle.c_tree.specs.Reads.{most, opened}
+use Rattle.c_grammar.specs.Reads.{most, opened}
 use Rattle.c_expr.specs.Front.{Read}
 use Rattle.c_expr.specs.declared.error.ParseErr.{ParseErr}
 use Rattle.c_expr.specs.declared.error.ParseErr.TheVariants.{TooDeep, NotC, Memory}

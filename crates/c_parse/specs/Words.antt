@@ -1,10 +1,10 @@
 -- What a reader of statements reads from tokens, with its typedef names.
 use Rattle.std.specs.Prelude.{ℕ, List, Bool, Option}
-use Rattle.c_type.specs.Tokens.{Token}
+use Rattle.c_lex.specs.Tokens.{Token}
 use Rattle.c_tree.specs.TreeExpr.{Expr}
 use Rattle.c_tree.specs.TreeDecl.{LocalDecl}
 use Rattle.c_tree.specs.TreeStmt.{Stmt, Stmts, SwItem, SwItems, Block}
-use Rattle.c_tree.specs.Reads.{most}
+use Rattle.c_grammar.specs.Reads.{most}
 use Rattle.c_expr.specs.Front.{Read}
 use Rattle.c_decl.specs.ReadSpecs.{start_at}
 use Rattle.c_decl.specs.ReadDecl as d

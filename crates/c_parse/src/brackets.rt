@@ -1,7 +1,7 @@
 // The brackets that are open at a token.
 ghost use Rattle.std.specs.Prelude.{◌≡◌, ◌+◌, ◌<◌, ◌^◌};
 ghost use Rattle.c_lex.specs.Shown.{tok_of, token_of};
-ghost use Rattle.c_tree.specs.Reads as r;
+ghost use Rattle.c_grammar.specs.Reads as r;
 
 use c_lex::{Tok, Token};
 

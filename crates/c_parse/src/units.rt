@@ -2,8 +2,8 @@
 ghost use Rattle.std.specs.Prelude.{◌≡◌, ◌+◌, ℕ, [], length, map, drop, Some, IfOk};
 ghost use Rattle.c_tree.specs.TreeUnit as tree;
 ghost use Rattle.c_tree.specs.TreeOf.{ext_of, unit_of};
-ghost use Rattle.c_tree.specs.WrittenUnit.{with_typedefs};
-ghost use Rattle.c_tree.specs.Reads.{most, ReadsTokens, AreShallow};
+ghost use Rattle.c_grammar.specs.WrittenUnit.{with_typedefs};
+ghost use Rattle.c_grammar.specs.Reads.{most, ReadsTokens, AreShallow};
 ghost use Rattle.c_lex.specs.Shown.{tokens_of};
 ghost use Rattle.c_expr.specs.Typedefs.{names_of};
 ghost use Rattle.c_expr.specs.Answer.{OnNotC};

@@ -1,6 +1,6 @@
 -- What an outcome says: of a value that it gives, or of a rule that fails.
 use Rattle.std.proofs.Common.{◌≡◌, ℕ, Bool, true, false, refl, subst}
-use Rattle.c_tree.specs.RuleScope.{Judged, Is, Fails, onward, provided}
+use Rattle.c_rule.specs.RuleScope.{Judged, Is, Fails, onward, provided}
 
 pub record Answer {A : Type 0} (P : A → Type 0) (F : ℕ → Type 0) (j : Judged A) : Type 0 where
   pub gives : (a : A) → j ≡ Is a → P a

@@ -5,7 +5,7 @@ use Rattle.std.proofs.lemmas.List.{map-append, length-append, reverse-append, re
 use Rattle.std.proofs.lemmas.Option.{none-some, slice_get-get_or}
 use Rattle.indexmap.proofs.ReorderLemmas.{map-reverse}
 use Rattle.c_type.specs.Names.{Name, same_name, pick}
-use Rattle.c_tree.specs.RuleScope as r
+use Rattle.c_rule.specs.RuleScope as r
 use Rattle.c_scope.specs.declared.scope.Entry.{Entry}
 use Rattle.c_scope.specs.Entries.{meaning_of, entry_of, entries_of}
 use Rattle.c_scope.specs.Places.{place_of}

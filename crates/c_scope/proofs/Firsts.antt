@@ -3,7 +3,7 @@ use Rattle.std.proofs.Common.{◌≡◌, ℕ, suc, ◌+◌, List, [], ◌∷◌,
 use Rattle.std.proofs.Math.Bool.{and-true}
 use Rattle.c_type.specs.Names.{Name, same_name, pick, or_else}
 use Rattle.c_type.specs.declared.TagKind.{TagKind}
-use Rattle.c_tree.specs.RuleScope.{Judged, Is, Fails, provided, TagHead, Body, same_kind, type_of_tag, tag_from, same_bool, body_from}
+use Rattle.c_rule.specs.RuleScope.{Judged, Is, Fails, provided, TagHead, Body, same_kind, type_of_tag, tag_from, same_bool, body_from}
 use Rattle.c_type.specs.Types.{CType}
 use Rattle.c_scope.specs.Places.{head_from}
 

@@ -10,16 +10,16 @@ use Rattle.c_tree.specs.TreeExpr.{Expr, Exprs, comma, assign, choice, binary, un
 use Rattle.c_tree.specs.TExpr as e
 use Rattle.c_tree.specs.TExpr.{TExpr, type_of}
 use Rattle.c_tree.specs.TStmt.{Declr}
-use Rattle.c_tree.specs.RuleScope.{Judged, Is, Fails, onward, Env, Meaning, Thing, Function, in_scope, function_ref, known, is_sized, past, past_option, started}
-use Rattle.c_tree.specs.RuleTypes.{is_function, cast_type, sized_type, void_is_a_result, elements_are_objects, functions_return, elements_are_sized, declared_type, spec_or_int}
-use Rattle.c_tree.specs.RuleValues.{used, scalar, integer, value_for}
-use Rattle.c_tree.specs.RuleExprs as r
-use Rattle.c_tree.specs.RuleTree.{IsExpr, IsCalled, AreArgs, Gives}
-use Rattle.c_tree.specs.RuleDecls.{dimension_of, constant_of, is_name, is_some, past_declr, IsDerived, IsDeclr, fills_chars, first_value, is_aggregate, part_types, IsSingle, IsInit, AreInits, Begins, IsAutoInit}
-use Rattle.c_tree.specs.RuleStmts.{is_free, innermost, Declares, enter, missing, declr_line, is_static, with_earlier, IsLocalBy, AreLocals, AreDecls, Place, in_loop, in_switch, Maybe, returned, labels_differ, IsStmt, AreStmts, AreItems}
-use Rattle.c_tree.specs.RuleFails.{OneFails, TwoFail, CalledFails, ExprFails, ArgsFail, Refuses, MaybeFails, DerivedFails, DeclrFails, InitFails, InitsFail, AutoInitFails, HasInit, IsTaken, LocalFails, LocalsFail, DeclsFail, StmtFails, StmtsFail, ItemsFail}
-use Rattle.c_scope.specs.Judging.{judged_called, judged_expr, judged_args, judged_by, judged_option, missing_dimension, judged_derived, judged_declr, judged_single, judged_init, judged_inits, judged_begin, judged_auto_init, declared_here, judged_auto, judged_static, judged_local, judged_locals, judged_decls, judged_stmt, judged_stmts, judged_items}
-use Rattle.c_scope.proofs.Answers.{Answer, is_a, fails_a, rule_a, onward_a, provided_a, under_a, provided_is}
+use Rattle.c_rule.specs.RuleScope.{Judged, Is, Fails, onward, Env, Meaning, Thing, Function, in_scope, function_ref, known, is_sized, past, past_option, started}
+use Rattle.c_rule.specs.RuleTypes.{is_function, cast_type, sized_type, void_is_a_result, elements_are_objects, functions_return, elements_are_sized, declared_type, spec_or_int}
+use Rattle.c_rule.specs.RuleValues.{used, scalar, integer, value_for}
+use Rattle.c_rule.specs.RuleExprs as r
+use Rattle.c_rule.specs.RuleTree.{IsExpr, IsCalled, AreArgs, Gives}
+use Rattle.c_rule.specs.RuleDecls.{dimension_of, constant_of, is_name, is_some, past_declr, IsDerived, IsDeclr, fills_chars, first_value, is_aggregate, part_types, IsSingle, IsInit, AreInits, Begins, IsAutoInit}
+use Rattle.c_rule.specs.RuleStmts.{is_free, innermost, Declares, enter, missing, declr_line, is_static, with_earlier, IsLocalBy, AreLocals, AreDecls, Place, in_loop, in_switch, Maybe, returned, labels_differ, IsStmt, AreStmts, AreItems}
+use Rattle.c_rule.specs.RuleFails.{OneFails, TwoFail, CalledFails, ExprFails, ArgsFail, Refuses, MaybeFails, DerivedFails, DeclrFails, InitFails, InitsFail, AutoInitFails, HasInit, IsTaken, LocalFails, LocalsFail, DeclsFail, StmtFails, StmtsFail, ItemsFail}
+use Rattle.c_rule.specs.Judging.{judged_called, judged_expr, judged_args, judged_by, judged_option, missing_dimension, judged_derived, judged_declr, judged_single, judged_init, judged_inits, judged_begin, judged_auto_init, declared_here, judged_auto, judged_static, judged_local, judged_locals, judged_decls, judged_stmt, judged_stmts, judged_items}
+use Rattle.c_rule.proofs.Answers.{Answer, is_a, fails_a, rule_a, onward_a, provided_a, under_a, provided_is}
 
 -- expressions
 

@@ -10,21 +10,21 @@ use Rattle.c_tree.specs.TreeStmt.{Block}
 use Rattle.c_tree.specs.TreeUnit as uu
 use Rattle.c_tree.specs.TExpr as e
 use Rattle.c_tree.specs.TStmt.{Declr}
-use Rattle.c_tree.specs.RuleScope.{Is, Fails, Env, Meaning, Alias, Constant, Thing, Function, in_scope, function_ref, known, is_sized, past_option}
-use Rattle.c_tree.specs.RuleTypes.{is_function, spec_type}
-use Rattle.c_tree.specs.RuleDecls.{constant_of, past_declr, is_some, IsDeclr}
-use Rattle.c_tree.specs.RuleStmts.{is_free, is_static, missing}
-use Rattle.c_tree.specs.RuleTags.{IsEnumerator, AreEnumerators, AreMembers, in_file, names_differ, AreTypes, IsDef, AreMems, AreTypesOrInt}
-use Rattle.c_tree.specs.RuleNames.{storage_of, types_of, tags_in, defined_in, tag_names}
-use Rattle.c_tree.specs.RuleUnit as w
-use Rattle.c_tree.specs.RuleUnit.{combined, DeclaresInFile, own_number, next_static, IsItemBy, AreAliases, list_of, is_listed, is_structure, AreParameters, AreParDecls, in_body, at_body, parameters, names_of, IsHead, IsBody, IsExt, AreExts, at_first, IsTyped}
-use Rattle.c_tree.specs.RuleFails.{Refuses, MaybeFails, DeclrFails, IsUnsized}
-use Rattle.c_tree.specs.RuleFailsUnit as f
-use Rattle.c_tree.specs.RuleFailsUnit.{UnitFails}
-use Rattle.c_scope.specs.Judging.{Behind, judged_by, judged_declr, judged_begin, judged_decls, judged_stmts}
-use Rattle.c_scope.specs.JudgingUnit as j
-use Rattle.c_scope.proofs.Answers.{Answer, is_a, fails_a, rule_a, onward_a, provided_a}
-use Rattle.c_scope.proofs.Judges.{by_a, declr_a, begin_a, has_init, no_init, decls_a, stmts_a}
+use Rattle.c_rule.specs.RuleScope.{Is, Fails, Env, Meaning, Alias, Constant, Thing, Function, in_scope, function_ref, known, is_sized, past_option}
+use Rattle.c_rule.specs.RuleTypes.{is_function, spec_type}
+use Rattle.c_rule.specs.RuleDecls.{constant_of, past_declr, is_some, IsDeclr}
+use Rattle.c_rule.specs.RuleStmts.{is_free, is_static, missing}
+use Rattle.c_rule.specs.RuleTags.{IsEnumerator, AreEnumerators, AreMembers, in_file, names_differ, AreTypes, IsDef, AreMems, AreTypesOrInt}
+use Rattle.c_rule.specs.RuleNames.{storage_of, types_of, tags_in, defined_in, tag_names}
+use Rattle.c_rule.specs.RuleUnit as w
+use Rattle.c_rule.specs.RuleUnit.{combined, DeclaresInFile, own_number, next_static, IsItemBy, AreAliases, list_of, is_listed, is_structure, AreParameters, AreParDecls, in_body, at_body, parameters, names_of, IsHead, IsBody, IsExt, AreExts, at_first, IsTyped}
+use Rattle.c_rule.specs.RuleFails.{Refuses, MaybeFails, DeclrFails, IsUnsized}
+use Rattle.c_rule.specs.RuleFailsUnit as f
+use Rattle.c_rule.specs.RuleFailsUnit.{UnitFails}
+use Rattle.c_rule.specs.Judging.{Behind, judged_by, judged_declr, judged_begin, judged_decls, judged_stmts}
+use Rattle.c_rule.specs.JudgingUnit as j
+use Rattle.c_rule.proofs.Answers.{Answer, is_a, fails_a, rule_a, onward_a, provided_a}
+use Rattle.c_rule.proofs.Judges.{by_a, declr_a, begin_a, has_init, no_init, decls_a, stmts_a}
 
 -- tags
 

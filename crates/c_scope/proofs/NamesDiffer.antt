@@ -4,7 +4,7 @@ use Rattle.std.specs.Cmp.Lexicographic.{pointwise}
 use Rattle.std.specs.List.{list_any}
 use Rattle.std.proofs.lemmas.Slice.Eq.{bytes_eq-Decides}
 use Rattle.c_type.specs.Names.{Name, same_name}
-use Rattle.c_tree.specs.RuleTags.{names_differ}
+use Rattle.c_rule.specs.RuleTags.{names_differ}
 
 abbrev pub among : Name → List Name → Bool
 among x [] = false

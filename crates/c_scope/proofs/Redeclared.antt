@@ -1,12 +1,12 @@
 -- What a declaration does, by what its name meant before it.
 use Rattle.std.proofs.Common.{◌≡◌, List, ◌∷◌, true, false, Some, None, ap, sym, ◌∙◌}
 use Rattle.c_type.specs.Names.{Name}
-use Rattle.c_tree.specs.RuleScope.{Is, Fails, provided, Env, Entry, Meaning, in_scope}
-use Rattle.c_tree.specs.RuleStmts.{is_free, innermost, added}
-use Rattle.c_tree.specs.RuleTags.{in_file}
-use Rattle.c_tree.specs.RuleUnit.{again, combined}
-use Rattle.c_scope.specs.Judging.{declared_here}
-use Rattle.c_scope.specs.JudgingUnit.{declared_in_file, declared_as}
+use Rattle.c_rule.specs.RuleScope.{Is, Fails, provided, Env, Entry, Meaning, in_scope}
+use Rattle.c_rule.specs.RuleStmts.{is_free, innermost, added}
+use Rattle.c_rule.specs.RuleTags.{in_file}
+use Rattle.c_rule.specs.RuleUnit.{again, combined}
+use Rattle.c_rule.specs.Judging.{declared_here}
+use Rattle.c_rule.specs.JudgingUnit.{declared_in_file, declared_as}
 
 pub here_taken : (c : Env) (x : Name) (m : Meaning) (es : List Entry) (rest : List (List Entry)) → c.blocks ≡ es ∷ rest → is_free x es ≡ false → declared_here c x m ≡ Fails 1
 here_taken c x m es rest at free =

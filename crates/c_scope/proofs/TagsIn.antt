@@ -10,8 +10,8 @@ use Rattle.c_tree.specs.declared.decl.TagDef as g
 use Rattle.c_tree.specs.declared.decl.TagDef.{TagDef, Struct, Union}
 use Rattle.c_tree.specs.TreeDecl as td
 use Rattle.c_tree.specs.TreeOf.{declr_of, types_of, def_of, mems_of, mems_from}
-use Rattle.c_tree.specs.RuleScope.{TagHead}
-use Rattle.c_tree.specs.RuleNames.{tags_in_def, tags_in_mems}
+use Rattle.c_rule.specs.RuleScope.{TagHead}
+use Rattle.c_rule.specs.RuleNames.{tags_in_def, tags_in_mems}
 use Rattle.c_tree.proofs.Of.{def_of-Struct}
 use Rattle.std.specs.Prelude.{map}
 

@@ -2,14 +2,14 @@
 use Rattle.std.proofs.Common.{◌≡◌, ℕ, refl, ap, ◌∙◌}
 use Rattle.c_tree.specs.TreeUnit.{Unit}
 use Rattle.c_tree.specs.TUnit.{TypedUnit}
-use Rattle.c_tree.specs.RuleScope.{Judged, Is, Fails}
-use Rattle.c_tree.specs.RuleUnit.{IsTyped}
-use Rattle.c_tree.specs.RuleFailsUnit.{UnitFails}
-use Rattle.c_tree.proofs.OneUnit.{unit_one}
-use Rattle.c_tree.proofs.ApartUnit.{unit_apart}
-use Rattle.c_scope.specs.JudgingUnit.{judged}
-use Rattle.c_scope.specs.Laws.{IsSound, IsComplete, IsRefused}
-use Rattle.c_scope.proofs.JudgesUnit.{unit_a}
+use Rattle.c_rule.specs.RuleScope.{Judged, Is, Fails}
+use Rattle.c_rule.specs.RuleUnit.{IsTyped}
+use Rattle.c_rule.specs.RuleFailsUnit.{UnitFails}
+use Rattle.c_rule.proofs.OneUnit.{unit_one}
+use Rattle.c_rule.proofs.ApartUnit.{unit_apart}
+use Rattle.c_rule.specs.JudgingUnit.{judged}
+use Rattle.c_rule.specs.Laws.{IsSound, IsComplete, IsRefused}
+use Rattle.c_rule.proofs.JudgesUnit.{unit_a}
 
 pub is_sound : IsSound
 is_sound y = ((unit_a y).gives, (unit_a y).fails)

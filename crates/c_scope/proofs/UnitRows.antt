@@ -10,8 +10,8 @@ use Rattle.c_tree.specs.TreeExpr as u
 use Rattle.c_tree.specs.TreeDecl as ud
 use Rattle.c_tree.specs.TreeStmt as us
 use Rattle.c_tree.specs.TreeUnit as uu
-use Rattle.c_tree.specs.RuleScope.{Judged, Is, Fails}
-use Rattle.c_scope.specs.JudgingUnit.{judged}
+use Rattle.c_rule.specs.RuleScope.{Judged, Is, Fails}
+use Rattle.c_rule.specs.JudgingUnit.{judged}
 
 abbrev outcome : {A : Type 0} → Judged A → ℕ
 outcome (Is a) = 0

@@ -1,7 +1,7 @@
 -- An environment of which only the closed tags count.
 use Rattle.std.specs.Prelude.{List, []}
 use Rattle.c_type.specs.Types.{Tag}
-use Rattle.c_tree.specs.RuleScope.{Env}
+use Rattle.c_rule.specs.RuleScope.{Env}
 
 -- where these tags are closed
 abbrev pub closed : List Tag → Env

@@ -2,7 +2,7 @@
 use Rattle.std.specs.Prelude.{List, map, reverse}
 use Rattle.c_type.specs.Of.{type_of}
 use Rattle.c_tree.specs.TypedOf.{ref_of}
-use Rattle.c_tree.specs.RuleScope as r
+use Rattle.c_rule.specs.RuleScope as r
 use Rattle.c_scope.specs.declared.scope.Meaning.{Meaning}
 use Rattle.c_scope.specs.declared.scope.Meaning.TheVariants as m
 use Rattle.c_scope.specs.declared.scope.Entry.{Entry}

@@ -1,7 +1,7 @@
 -- The environment that the scopes of the code stand for.
 use Rattle.std.specs.Prelude.{List, map, reverse}
 use Rattle.c_type.specs.Of.{tags_of}
-use Rattle.c_tree.specs.RuleScope as r
+use Rattle.c_rule.specs.RuleScope as r
 use Rattle.c_scope.specs.declared.scope.Scope.{Scope}
 use Rattle.c_scope.specs.declared.heads.Heads.{Heads}
 use Rattle.c_scope.specs.declared.bodies.Bodies.{Bodies}

@@ -14,12 +14,12 @@ use Rattle.c_tree.specs.TExpr as e
 use Rattle.c_tree.specs.TExpr.{TExpr, TArgs, type_of}
 use Rattle.c_tree.specs.TStmt as st
 use Rattle.c_tree.specs.TStmt.{TStmt, TStmts, TItems, Declr, Local, LocalDecl}
-use Rattle.c_tree.specs.RuleScope.{Judged, Is, Fails, onward, provided, Env, Meaning, Thing, Function, in_scope, function_ref, meaning_of, known, is_sized, past, past_option, started}
-use Rattle.c_tree.specs.RuleTypes.{is_function, cast_type, sized_type, declared_type, spec_or_int}
-use Rattle.c_tree.specs.RuleValues.{used, scalar, integer, value_for}
-use Rattle.c_tree.specs.RuleExprs as r
-use Rattle.c_tree.specs.RuleDecls.{dimension_of, constant_of, is_name, is_some, past_declr, fills_chars, bytes_of, first_value, is_aggregate, part_types}
-use Rattle.c_tree.specs.RuleStmts.{is_free, innermost, added, enter, leave, missing, declr_line, is_static, with_earlier, past_init, Place, in_loop, in_switch, returned, labels_differ}
+use Rattle.c_rule.specs.RuleScope.{Judged, Is, Fails, onward, provided, Env, Meaning, Thing, Function, in_scope, function_ref, meaning_of, known, is_sized, past, past_option, started}
+use Rattle.c_rule.specs.RuleTypes.{is_function, cast_type, sized_type, declared_type, spec_or_int}
+use Rattle.c_rule.specs.RuleValues.{used, scalar, integer, value_for}
+use Rattle.c_rule.specs.RuleExprs as r
+use Rattle.c_rule.specs.RuleDecls.{dimension_of, constant_of, is_name, is_some, past_declr, fills_chars, bytes_of, first_value, is_aggregate, part_types}
+use Rattle.c_rule.specs.RuleStmts.{is_free, innermost, added, enter, leave, missing, declr_line, is_static, with_earlier, past_init, Place, in_loop, in_switch, returned, labels_differ}
 
 -- a typed tree with the environment behind it
 pub record Behind (A : Type 0) : Type 0 where

@@ -15,14 +15,14 @@ use Rattle.c_tree.specs.TStmt.{Declr}
 use Rattle.c_tree.specs.TUnit as t
 use Rattle.c_tree.specs.TUnit.{Spec, Mems, Enumerator, Item, ParDecl, Func, TExt, TypedUnit}
 use Rattle.c_tree.specs.declared.typed_unit.Bound.TheVariants.{Own, Outside, Elsewhere, OwnFunction, OutsideFunction}
-use Rattle.c_tree.specs.RuleScope.{Judged, Is, Fails, onward, provided, Env, Meaning, Alias, Constant, Thing, Function, in_scope, function_ref, known, is_sized, close, past_option, started}
-use Rattle.c_tree.specs.RuleTypes.{is_function, spec_type}
-use Rattle.c_tree.specs.RuleDecls.{constant_of, past_declr}
-use Rattle.c_tree.specs.RuleStmts.{is_free, is_static, missing}
-use Rattle.c_tree.specs.RuleTags.{next_value, in_file, member_of, names_differ, unplaced, as_member}
-use Rattle.c_tree.specs.RuleNames.{storage_of, types_of, tags_in, defined_in, tag_names}
-use Rattle.c_tree.specs.RuleUnit.{combined, own_number, next_static, list_of, is_listed, is_structure, in_body, at_body, parameters, names_of, at_first}
-use Rattle.c_scope.specs.Judging.{Behind, behind, judged_by, judged_declr, judged_begin, without_init, judged_decls, judged_stmts}
+use Rattle.c_rule.specs.RuleScope.{Judged, Is, Fails, onward, provided, Env, Meaning, Alias, Constant, Thing, Function, in_scope, function_ref, known, is_sized, close, past_option, started}
+use Rattle.c_rule.specs.RuleTypes.{is_function, spec_type}
+use Rattle.c_rule.specs.RuleDecls.{constant_of, past_declr}
+use Rattle.c_rule.specs.RuleStmts.{is_free, is_static, missing}
+use Rattle.c_rule.specs.RuleTags.{next_value, in_file, member_of, names_differ, unplaced, as_member}
+use Rattle.c_rule.specs.RuleNames.{storage_of, types_of, tags_in, defined_in, tag_names}
+use Rattle.c_rule.specs.RuleUnit.{combined, own_number, next_static, list_of, is_listed, is_structure, in_body, at_body, parameters, names_of, at_first}
+use Rattle.c_rule.specs.Judging.{Behind, behind, judged_by, judged_declr, judged_begin, without_init, judged_decls, judged_stmts}
 
 -- tags
 

@@ -2,10 +2,10 @@
 use Rattle.std.specs.Prelude.{◌≡◌, ℕ}
 use Rattle.c_tree.specs.TreeUnit.{Unit}
 use Rattle.c_tree.specs.TUnit.{TypedUnit}
-use Rattle.c_tree.specs.RuleScope.{Is, Fails}
-use Rattle.c_tree.specs.RuleUnit.{IsTyped}
-use Rattle.c_tree.specs.RuleFailsUnit.{UnitFails}
-use Rattle.c_scope.specs.JudgingUnit.{judged}
+use Rattle.c_rule.specs.RuleScope.{Is, Fails}
+use Rattle.c_rule.specs.RuleUnit.{IsTyped}
+use Rattle.c_rule.specs.RuleFailsUnit.{UnitFails}
+use Rattle.c_rule.specs.JudgingUnit.{judged}
 
 -- what the typing function gives belongs to the unit, and what it says to fail fails there
 abbrev pub IsSound : Type 0

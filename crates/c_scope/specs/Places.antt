@@ -2,7 +2,7 @@
 use Rattle.std.specs.Prelude.{ℕ, suc, List, [], ◌∷◌, length, Option, Some, None}
 use Rattle.c_type.specs.Names.{Name, same_name, pick}
 use Rattle.c_type.specs.declared.TagKind.{TagKind}
-use Rattle.c_tree.specs.RuleScope.{Entry, TagHead}
+use Rattle.c_rule.specs.RuleScope.{Entry, TagHead}
 
 -- the number of the entries that were declared before the latest one of the name, which stands first
 abbrev pub place_of : Name → List Entry → Option ℕ

@@ -1,7 +1,7 @@
 -- What an answer of the code says of an outcome: the value that a rule gives, or the number of a rule that fails.
 use Rattle.std.specs.Prelude.{◌≡◌, Result, Ok, Err}
-use Rattle.c_tree.specs.RuleScope.{Judged, Is, Fails, Env}
-use Rattle.c_scope.specs.Judging.{Behind}
+use Rattle.c_rule.specs.RuleScope.{Judged, Is, Fails, Env}
+use Rattle.c_rule.specs.Judging.{Behind}
 use Rattle.c_scope.specs.declared.error.TypeErr.{TypeErr}
 use Rattle.c_scope.specs.declared.error.TypeErr.TheVariants.{Rule, Memory}
 

@@ -2,9 +2,9 @@
 ghost use Rattle.std.specs.Prelude.{◌≡◌, IfOk};
 ghost use Rattle.std.specs.Option.{option_map};
 ghost use Rattle.c_type.specs.Of.{type_of};
-ghost use Rattle.c_tree.specs.RuleScope.{same_bool};
-ghost use Rattle.c_tree.specs.RuleTypes as t;
-ghost use Rattle.c_tree.specs.RuleUnit as u;
+ghost use Rattle.c_rule.specs.RuleScope.{same_bool};
+ghost use Rattle.c_rule.specs.RuleTypes as t;
+ghost use Rattle.c_rule.specs.RuleUnit as u;
 ghost use Rattle.c_tree.specs.TypedOf.{ref_of};
 ghost use Rattle.c_scope.specs.Entries.{meaning_of};
 

@@ -2,7 +2,7 @@
 ghost use Rattle.std.specs.Prelude.{◌≡◌, ◌∷◌, ◌++◌, [], List, ℕ, OnOk, map, true, false};
 ghost use Rattle.std.specs.Str.{bytes_eq};
 ghost use Rattle.indexmap.specs.IndexMap.{get_by};
-ghost use Rattle.c_tree.specs.RuleScope.{body_from};
+ghost use Rattle.c_rule.specs.RuleScope.{body_from};
 ghost use Rattle.c_scope.specs.Entries.{body_of};
 
 use crate::first::insert_first;

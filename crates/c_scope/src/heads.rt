@@ -3,9 +3,9 @@ ghost use Rattle.std.specs.Prelude.{◌≡◌, ◌∷◌, ◌++◌, [], List, �
 ghost use Rattle.std.specs.Str.{bytes_eq};
 ghost use Rattle.indexmap.specs.IndexMap.{get_by};
 ghost use Rattle.c_type.specs.Of.{type_of};
-ghost use Rattle.c_tree.specs.RuleNames.{tag_names};
-ghost use Rattle.c_tree.specs.RuleScope.{same_kind, tag_from, type_of_tag};
-ghost use Rattle.c_tree.specs.RuleTags as t;
+ghost use Rattle.c_rule.specs.RuleNames.{tag_names};
+ghost use Rattle.c_rule.specs.RuleScope.{same_kind, tag_from, type_of_tag};
+ghost use Rattle.c_rule.specs.RuleTags as t;
 ghost use Rattle.c_scope.specs.Entries.{head_of};
 ghost use Rattle.c_scope.specs.Places.{head_from};
 ghost use Rattle.c_scope.specs.Says.{Says};

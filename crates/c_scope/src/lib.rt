@@ -17,7 +17,7 @@ mod tags_in;
 mod types;
 mod words;
 
-ghost use Rattle.c_scope.specs.Laws.{IsComplete, IsRefused, IsSound};
+ghost use Rattle.c_rule.specs.Laws.{IsComplete, IsRefused, IsSound};
 
 pub use again::joined;
 pub use error::TypeErr;

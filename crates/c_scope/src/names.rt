@@ -1,6 +1,6 @@
 // Whether names differ from one another.
 ghost use Rattle.std.specs.Prelude.{◌≡◌, IfOk, is_some, map, not};
-ghost use Rattle.c_tree.specs.RuleTags as t;
+ghost use Rattle.c_rule.specs.RuleTags as t;
 
 use indexmap::IndexSet;
 use std::alloc::{AllocError, Global};

@@ -3,8 +3,8 @@ ghost use Rattle.std.specs.Prelude.{◌≡◌, ◌∷◌, [], List, ℕ, OnOk};
 ghost use Rattle.std.specs.Option.{option_map};
 ghost use Rattle.std.specs.Str.{bytes_eq};
 ghost use Rattle.indexmap.specs.IndexMap.{get_by};
-ghost use Rattle.c_tree.specs.RuleScope as r;
-ghost use Rattle.c_tree.specs.RuleStmts.{is_free};
+ghost use Rattle.c_rule.specs.RuleScope as r;
+ghost use Rattle.c_rule.specs.RuleStmts.{is_free};
 ghost use Rattle.c_scope.specs.Entries.{meaning_of, entries_of};
 ghost use Rattle.c_scope.specs.Places.{place_of};
 

@@ -3,9 +3,9 @@ ghost use Rattle.std.specs.Prelude.{◌≡◌, ◌++◌, [], OnOk, IfOk, map};
 ghost use Rattle.std.specs.List.{flat_map};
 ghost use Rattle.c_type.specs.Names.{or_default};
 ghost use Rattle.c_tree.specs.TreeOf as u;
-ghost use Rattle.c_tree.specs.RuleNames as n;
-ghost use Rattle.c_tree.specs.RuleStmts.{is_static as is_static_rule};
-ghost use Rattle.c_tree.specs.WrittenDeclr.{declared as declared_name};
+ghost use Rattle.c_rule.specs.RuleNames as n;
+ghost use Rattle.c_rule.specs.RuleStmts.{is_static as is_static_rule};
+ghost use Rattle.c_tree.specs.TreeDecl.{declared as declared_name};
 ghost use Rattle.c_scope.specs.EnvOf.{heads_of, bodies_of};
 
 use crate::bodies::Bodies;

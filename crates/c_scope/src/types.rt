@@ -3,9 +3,9 @@ ghost use Rattle.std.specs.Prelude.{◌≡◌, IfOk};
 ghost use Rattle.c_type.specs.Of.{type_of, tags_of};
 ghost use Rattle.c_type.specs.Types as t;
 ghost use Rattle.c_tree.specs.TypedOf.{ref_of};
-ghost use Rattle.c_tree.specs.RuleTypes as r;
-ghost use Rattle.c_tree.specs.RuleScope.{known, is_sized as is_sized_rule};
-ghost use Rattle.c_tree.specs.RuleValues as v;
+ghost use Rattle.c_rule.specs.RuleTypes as r;
+ghost use Rattle.c_rule.specs.RuleScope.{known, is_sized as is_sized_rule};
+ghost use Rattle.c_rule.specs.RuleValues as v;
 ghost use Rattle.c_scope.specs.Closed.{closed};
 
 use c_tree::Ref;

@@ -2,8 +2,8 @@
 ghost use Rattle.std.specs.Prelude.{◌≡◌, IfOk};
 ghost use Rattle.c_type.specs.Of.{type_of, tags_of};
 ghost use Rattle.c_tree.specs.TreeOf.{type_name_of, type_spec_of, part_of};
-ghost use Rattle.c_tree.specs.RuleTypes as r;
-ghost use Rattle.c_tree.specs.RuleScope.{known};
+ghost use Rattle.c_rule.specs.RuleTypes as r;
+ghost use Rattle.c_rule.specs.RuleScope.{known};
 ghost use Rattle.c_scope.specs.Closed.{closed};
 ghost use Rattle.c_scope.specs.EnvOf.{env_of};
 ghost use Rattle.c_scope.specs.Says.{Says};

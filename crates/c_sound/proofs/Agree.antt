@@ -4,9 +4,9 @@ use Rattle.std.specs.List.{list_any}
 use Rattle.std.proofs.lemmas.Bool.{eqb-true, or_parts}
 use Rattle.c_type.specs.declared.Kind.TheVariants.{Int}
 use Rattle.c_type.specs.Types.{CType, num, void, ptr, arr, struct, union, enum, fun, kind_code, is_integer}
-use Rattle.c_tree.specs.RuleTypes.{is_function}
-use Rattle.c_tree.specs.JoinTypes.{Relation, TypeIn, between, agree_by, same_dimension, declare_alike}
-use Rattle.c_tree.specs.JoinChecks.{differ, some_differ}
+use Rattle.c_rule.specs.RuleTypes.{is_function}
+use Rattle.c_join.specs.JoinTypes.{Relation, TypeIn, between, agree_by, same_dimension, declare_alike}
+use Rattle.c_join.specs.JoinChecks.{differ, some_differ}
 use Rattle.c_sound.specs.HasType.{like}
 use Rattle.c_sound.proofs.Listed.{IsIn, none_passes}
 use Rattle.c_sound.proofs.Objects.{number_itself}

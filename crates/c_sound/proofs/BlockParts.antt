@@ -14,15 +14,15 @@ use Rattle.c_tree.specs.TStmt as st
 use Rattle.c_tree.specs.TStmt.{Declr, Local, LocalDecl, TStmt, TStmts, TItems, locals}
 use Rattle.c_tree.specs.Bodies.{Auto, autos_local, autos_stmt, autos_stmts, autos_items}
 use Rattle.c_tree.specs.Starts.{Start, at, starts_local, starts_stmt, starts_stmts, starts_items}
-use Rattle.c_tree.specs.Mentions.{Mention, Own, in_expr, in_option, in_local, in_stmt, in_stmts, in_items, in_begin, in_declr}
-use Rattle.c_tree.specs.Numbers.{text_numbers, own_numbers}
-use Rattle.c_tree.specs.RuleScope.{Env, Meaning, past, past_option, started}
-use Rattle.c_tree.specs.RuleTexts.{texts_in}
-use Rattle.c_tree.specs.RuleTypes.{is_function}
-use Rattle.c_tree.specs.RuleValues.{used, scalar, integer, value_for}
-use Rattle.c_tree.specs.RuleTree.{Gives}
-use Rattle.c_tree.specs.RuleDecls.{past_declr}
-use Rattle.c_tree.specs.RuleStmts.{missing, Maybe, returned, enter, Declares, IsLocalBy, AreLocals, AreDecls, Place, in_loop, in_switch, IsStmt, AreStmts, AreItems}
+use Rattle.c_run.specs.Mentions.{Mention, Own, in_expr, in_option, in_local, in_stmt, in_stmts, in_items, in_begin, in_declr}
+use Rattle.c_run.specs.Numbers.{text_numbers, own_numbers}
+use Rattle.c_rule.specs.RuleScope.{Env, Meaning, past, past_option, started}
+use Rattle.c_rule.specs.RuleTexts.{texts_in}
+use Rattle.c_rule.specs.RuleTypes.{is_function}
+use Rattle.c_rule.specs.RuleValues.{used, scalar, integer, value_for}
+use Rattle.c_rule.specs.RuleTree.{Gives}
+use Rattle.c_rule.specs.RuleDecls.{past_declr}
+use Rattle.c_rule.specs.RuleStmts.{missing, Maybe, returned, enter, Declares, IsLocalBy, AreLocals, AreDecls, Place, in_loop, in_switch, IsStmt, AreStmts, AreItems}
 use Rattle.c_sound.proofs.Counts.{Counts}
 use Rattle.c_sound.proofs.RuleSays.{used_says, scalar_says, integer_says, value_says}
 use Rattle.c_sound.proofs.TextOrder.{gives_texts, constant_texts}

@@ -7,15 +7,15 @@ use Rattle.c_type.specs.Types.{CType, num, void, ptr, arr, struct, union, enum, 
 use Rattle.c_tree.specs.TStmt.{locals}
 use Rattle.c_tree.specs.TUnit.{Func, Var}
 use Rattle.c_tree.specs.Bodies.{BodyAt, autos}
-use Rattle.c_tree.specs.Values.{Target, Body, Putchar, Getchar, Exit, Value, Num, Null, To, Fn, converted, suits, Stack, Ended}
-use Rattle.c_tree.specs.State.{State, Act, Thing, Out, Gave, Halt, bind, choose, Flow, Next, Broke, Continued, Returned}
-use Rattle.c_tree.specs.Context.{Context, Linked, context, context_of, fresh_all, shared}
-use Rattle.c_tree.specs.Pointers.{leaves}
-use Rattle.c_tree.specs.Exprs.{Arg}
-use Rattle.c_tree.specs.Stmts.{Given, Rest, turn, inits, stmts}
-use Rattle.c_tree.specs.Calls.{fits_kind, fit, params, all_suit, entered, drop_act, left, result, body, enter, call_body, int_type, int_var, library, first_number, put_byte, get_byte, call_target, call_with, stack_base, frame_of, next_base, rest}
-use Rattle.c_tree.specs.RuleTypes.{is_function, is_void}
-use Rattle.c_tree.specs.RuleValues.{is_scalar}
+use Rattle.c_run.specs.Values.{Target, Body, Putchar, Getchar, Exit, Value, Num, Null, To, Fn, converted, suits, Stack, Ended}
+use Rattle.c_run.specs.State.{State, Act, Thing, Out, Gave, Halt, bind, choose, Flow, Next, Broke, Continued, Returned}
+use Rattle.c_run.specs.Context.{Context, Linked, context, context_of, fresh_all, shared}
+use Rattle.c_run.specs.Pointers.{leaves}
+use Rattle.c_run.specs.Exprs.{Arg}
+use Rattle.c_run.specs.Stmts.{Given, Rest, turn, inits, stmts}
+use Rattle.c_run.specs.Calls.{fits_kind, fit, params, all_suit, entered, drop_act, left, result, body, enter, call_body, int_type, int_var, library, first_number, put_byte, get_byte, call_target, call_with, stack_base, frame_of, next_base, rest}
+use Rattle.c_rule.specs.RuleTypes.{is_function, is_void}
+use Rattle.c_rule.specs.RuleValues.{is_scalar}
 use Rattle.c_sound.specs.HasType.{like, HasType, HoldThings, HoldActs, Holds, AreBytes, BodyGives, Gives}
 use Rattle.c_sound.specs.Suits.{SuitsFunc}
 use Rattle.c_sound.specs.Program.{IsBound, HasText, HaveSizes, SuitsBody, SuitBodies, SuitsProgram}

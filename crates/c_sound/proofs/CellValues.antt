@@ -6,7 +6,7 @@ use Rattle.c_type.specs.Names.{at_or}
 use Rattle.c_type.specs.Types.{CType, num, void, ptr, arr, struct, union, enum, fun, Member, Tag}
 use Rattle.c_type.specs.Sizes.{size}
 use Rattle.c_type.specs.Cells.{Cell, moved, repeated, cells_by, joined, tag_cells, table_from, cells}
-use Rattle.c_tree.specs.RuleTypes.{is_function}
+use Rattle.c_rule.specs.RuleTypes.{is_function}
 
 abbrev pub AreValues : List Cell → Type 0
 AreValues [] = Unit {0}

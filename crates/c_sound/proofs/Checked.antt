@@ -3,7 +3,7 @@ use Rattle.std.proofs.Common.{List, [], ◌∷◌}
 use Rattle.std.specs.List.{AllZip}
 use Rattle.c_tree.specs.TreeUnit as u
 use Rattle.c_tree.specs.TUnit.{TypedUnit}
-use Rattle.c_tree.specs.RuleUnit.{IsTyped}
+use Rattle.c_rule.specs.RuleUnit.{IsTyped}
 use Rattle.c_sound.specs.Laws.{AllSuit, CheckedRunsAreNamed, CheckedRunsEnd}
 use Rattle.c_sound.proofs.Joined.{joined_suits}
 use Rattle.c_sound.proofs.Units.{typed_suits}

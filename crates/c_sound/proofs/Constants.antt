@@ -8,8 +8,8 @@ use Rattle.c_tree.specs.declared.TBinary.{TBinary}
 use Rattle.c_tree.specs.TExpr as e
 use Rattle.c_tree.specs.TExpr.{Ref, TExpr, type_of}
 use Rattle.c_tree.specs.Constant.{given, named, as_integer, constant, is_zero_option, is_zero}
-use Rattle.c_tree.specs.Context.{Context}
-use Rattle.c_tree.specs.RuleValues.{is_scalar}
+use Rattle.c_run.specs.Context.{Context}
+use Rattle.c_rule.specs.RuleValues.{is_scalar}
 use Rattle.c_sound.specs.Suits.{is_wide, unary_suits, binary_suits, Suits}
 use Rattle.c_sound.specs.Program.{IsBound, HasText}
 use Rattle.c_sound.proofs.Operators.{both_integers}

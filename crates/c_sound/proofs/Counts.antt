@@ -1,6 +1,6 @@
 -- Lists that count up from one number to another.
 use Rattle.std.proofs.Common.{◌≡◌, ℕ, suc, ◌+◌, List, [], ◌∷◌, ◌++◌, length, sym, subst, arith}
-use Rattle.c_tree.specs.Numbers.{IsCounted}
+use Rattle.c_run.specs.Numbers.{IsCounted}
 
 -- n, n + 1 and so on, below m
 abbrev pub Counts : ℕ → List ℕ → ℕ → Type 0

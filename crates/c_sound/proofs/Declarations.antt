@@ -6,9 +6,9 @@ use Rattle.c_type.specs.Sizes.{capped, up_to, size, align, placed, laid_as}
 use Rattle.c_tree.specs.TreeDecl as ud
 use Rattle.c_tree.specs.TStmt.{Declr}
 use Rattle.c_tree.specs.TUnit.{Spec, Mems, Enumerator}
-use Rattle.c_tree.specs.RuleScope.{Env, Entry, Constant, close}
-use Rattle.c_tree.specs.RuleDecls.{past_declr}
-use Rattle.c_tree.specs.RuleTags.{AreEnumerators, AreMembers, AreTypes, IsDef, AreMems, IsMem, AreTypesOrInt, in_file, unplaced, as_member, member_of}
+use Rattle.c_rule.specs.RuleScope.{Env, Entry, Constant, close}
+use Rattle.c_rule.specs.RuleDecls.{past_declr}
+use Rattle.c_rule.specs.RuleTags.{AreEnumerators, AreMembers, AreTypes, IsDef, AreMems, IsMem, AreTypesOrInt, in_file, unplaced, as_member, member_of}
 use Rattle.c_sound.specs.Unit.{Declares}
 use Rattle.c_sound.proofs.Means.{Means}
 use Rattle.c_sound.proofs.Stands.{SaneMembers, SaneTags, IsSaneName, Stands, option_stands, declr_stands}

@@ -9,17 +9,17 @@ use Rattle.c_tree.specs.declared.TUnary.TheVariants.{Neg, Flip, Not}
 use Rattle.c_tree.specs.declared.TBinary.TheVariants.{Add}
 use Rattle.c_tree.specs.TExpr as e
 use Rattle.c_tree.specs.TExpr.{Ref, TExpr, type_of}
-use Rattle.c_tree.specs.Values.{Object, Target, Value, Num, Null, To, Fn, is_true, truth}
+use Rattle.c_run.specs.Values.{Object, Target, Value, Num, Null, To, Fn, is_true, truth}
 use Rattle.c_tree.specs.Arith.{one_number}
-use Rattle.c_tree.specs.State.{State, Gave, bind, current}
-use Rattle.c_tree.specs.Context.{Linked, Context, object_of, own, outer}
-use Rattle.c_tree.specs.Pointers.{load}
-use Rattle.c_tree.specs.Exprs as x
-use Rattle.c_tree.specs.Exprs.{unary_op, operate, as_place, as_function, place_of, value_of, is_member}
-use Rattle.c_tree.specs.RuleTypes.{is_void, is_function}
-use Rattle.c_tree.specs.RuleValues.{is_scalar, is_object_pointer, is_variable}
-use Rattle.c_tree.specs.RuleExprs.{is_structure}
-use Rattle.c_tree.proofs.Suited.{same_is}
+use Rattle.c_run.specs.State.{State, Gave, bind, current}
+use Rattle.c_run.specs.Context.{Linked, Context, object_of, own, outer}
+use Rattle.c_run.specs.Pointers.{load}
+use Rattle.c_run.specs.Exprs as x
+use Rattle.c_run.specs.Exprs.{unary_op, operate, as_place, as_function, place_of, value_of, is_member}
+use Rattle.c_rule.specs.RuleTypes.{is_void, is_function}
+use Rattle.c_rule.specs.RuleValues.{is_scalar, is_object_pointer, is_variable}
+use Rattle.c_rule.specs.RuleExprs.{is_structure}
+use Rattle.c_run.proofs.Suited.{same_is}
 use Rattle.c_sound.specs.HasType.{IsFunction, IsPlace, PointsTo, HasType, Holds}
 use Rattle.c_sound.specs.Suits.{is_wide, is_used, unary_suits, binary_suits, callee}
 use Rattle.c_sound.specs.Program.{IsThere, IsCallable, IsBound, HaveSizes}

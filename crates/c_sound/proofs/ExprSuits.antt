@@ -6,12 +6,12 @@ use Rattle.c_type.specs.Types.{CType, num, void, ptr, arr, struct, union, enum, 
 use Rattle.c_tree.specs.TreeExpr.{Expr, Exprs, TypeName, comma, assign, choice, binary, unary, size_of, size_of_type, cast, index, call, member, arrow, post, name, int, chr, text, no_exprs, more_exprs}
 use Rattle.c_tree.specs.TExpr as e
 use Rattle.c_tree.specs.TExpr.{TExpr, TArgs, type_of}
-use Rattle.c_tree.specs.RuleScope.{Judged, Is, Fails, Env, past, known, meaning_of}
-use Rattle.c_tree.specs.RuleTypes.{void_is_a_result, elements_are_objects, functions_return, elements_are_sized, declared_type, spec_type, void_or, pointer_to, cast_type}
-use Rattle.c_tree.specs.RuleValues.{used, integer, scalar, is_scalar, to_type, is_taken, taken, value_for}
-use Rattle.c_tree.specs.RuleDecls.{first_value, is_known}
-use Rattle.c_tree.specs.RuleExprs as r
-use Rattle.c_tree.specs.RuleTree.{IsExpr, IsCalled, AreArgs, Gives}
+use Rattle.c_rule.specs.RuleScope.{Judged, Is, Fails, Env, past, known, meaning_of}
+use Rattle.c_rule.specs.RuleTypes.{void_is_a_result, elements_are_objects, functions_return, elements_are_sized, declared_type, spec_type, void_or, pointer_to, cast_type}
+use Rattle.c_rule.specs.RuleValues.{used, integer, scalar, is_scalar, to_type, is_taken, taken, value_for}
+use Rattle.c_rule.specs.RuleDecls.{first_value, is_known}
+use Rattle.c_rule.specs.RuleExprs as r
+use Rattle.c_rule.specs.RuleTree.{IsExpr, IsCalled, AreArgs, Gives}
 use Rattle.c_sound.specs.Unit.{Declares, IsMeant, AnyText}
 use Rattle.c_sound.specs.Suits.{Suits, SuitArgs, SuitsHere, is_used, is_taken_as}
 use Rattle.c_sound.proofs.Stands.{Stands, SaneTags, IsSane, IsDeclared, name_means, past_stands}

@@ -6,17 +6,17 @@ use Rattle.c_type.specs.Types.{CType, num, void, ptr, arr, struct, union, enum, 
 use Rattle.c_tree.specs.declared.TBinary.TheVariants.{Add}
 use Rattle.c_tree.specs.TExpr as e
 use Rattle.c_tree.specs.TExpr.{TExpr, TArgs, type_of}
-use Rattle.c_tree.specs.Values.{Value, converted, is_true, truth}
+use Rattle.c_run.specs.Values.{Value, converted, is_true, truth}
 use Rattle.c_tree.specs.Constant.{is_zero}
-use Rattle.c_tree.specs.State.{State, Out, Gave, bind, choose}
-use Rattle.c_tree.specs.Context.{Linked, Context, shared, text_object, offset}
-use Rattle.c_tree.specs.Pointers.{load, store, copy, as_pointer, beyond}
-use Rattle.c_tree.specs.Exprs as x
-use Rattle.c_tree.specs.Exprs.{Arg, Call, value, place, args, unary_op, operate, stepped, updated, as_place, place_of, value_of, is_member}
-use Rattle.c_tree.specs.RuleTypes.{is_void, is_function}
-use Rattle.c_tree.specs.RuleValues.{is_scalar, is_place}
-use Rattle.c_tree.specs.RuleExprs.{is_structure}
-use Rattle.c_tree.proofs.Suited.{same_is}
+use Rattle.c_run.specs.State.{State, Out, Gave, bind, choose}
+use Rattle.c_run.specs.Context.{Linked, Context, shared, text_object, offset}
+use Rattle.c_run.specs.Pointers.{load, store, copy, as_pointer, beyond}
+use Rattle.c_run.specs.Exprs as x
+use Rattle.c_run.specs.Exprs.{Arg, Call, value, place, args, unary_op, operate, stepped, updated, as_place, place_of, value_of, is_member}
+use Rattle.c_rule.specs.RuleTypes.{is_void, is_function}
+use Rattle.c_rule.specs.RuleValues.{is_scalar, is_place}
+use Rattle.c_rule.specs.RuleExprs.{is_structure}
+use Rattle.c_run.proofs.Suited.{same_is}
 use Rattle.c_sound.specs.HasType.{IsPlace, PointsTo, HasType, Holds}
 use Rattle.c_sound.specs.Suits.{is_used, Suits, SuitArgs}
 use Rattle.c_sound.specs.Program.{IsBound, HasText, HaveSizes}

@@ -7,12 +7,12 @@ use Rattle.c_tree.specs.TExpr as e
 use Rattle.c_tree.specs.TExpr.{TExpr, Ref}
 use Rattle.c_tree.specs.Bodies.{Auto}
 use Rattle.c_tree.specs.Starts.{Start}
-use Rattle.c_tree.specs.Mentions.{Mention}
-use Rattle.c_tree.specs.Numbers.{text_numbers, own_numbers, IsFirstSeen}
-use Rattle.c_tree.specs.RuleScope.{Env, Entry, Meaning, Alias, Constant, Thing, Function, in_scope, same_bool}
-use Rattle.c_tree.specs.RuleTypes.{joined}
-use Rattle.c_tree.specs.RuleTags.{in_file}
-use Rattle.c_tree.specs.RuleUnit.{is_own, object_again, combined, DeclaresInFile, own_number, next_static}
+use Rattle.c_run.specs.Mentions.{Mention}
+use Rattle.c_run.specs.Numbers.{text_numbers, own_numbers, IsFirstSeen}
+use Rattle.c_rule.specs.RuleScope.{Env, Entry, Meaning, Alias, Constant, Thing, Function, in_scope, same_bool}
+use Rattle.c_rule.specs.RuleTypes.{joined}
+use Rattle.c_rule.specs.RuleTags.{in_file}
+use Rattle.c_rule.specs.RuleUnit.{is_own, object_again, combined, DeclaresInFile, own_number, next_static}
 use Rattle.c_sound.proofs.Counts.{Counts, counts_both}
 use Rattle.c_sound.proofs.TextOrder.{texts_both, own_both}
 use Rattle.c_sound.proofs.Parts.{Part}

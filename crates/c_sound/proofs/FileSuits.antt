@@ -13,12 +13,12 @@ use Rattle.c_tree.specs.TExpr.{Ref}
 use Rattle.c_tree.specs.TStmt as st
 use Rattle.c_tree.specs.TStmt.{Declr}
 use Rattle.c_tree.specs.TUnit.{Item, ParDecl}
-use Rattle.c_tree.specs.Mentions.{said, in_declr, in_begin, in_item}
-use Rattle.c_tree.specs.RuleScope.{Env, Meaning, Alias, Thing, Function, in_scope, same_bool}
-use Rattle.c_tree.specs.RuleTypes.{is_function, joined}
-use Rattle.c_tree.specs.RuleDecls.{past_declr}
-use Rattle.c_tree.specs.RuleStmts.{is_static, missing}
-use Rattle.c_tree.specs.RuleUnit.{is_own, object_again, again, combined, DeclaresInFile, own_number, next_static, IsItemBy, AreItems, AreAliases, as_parameter, AreParameters, AreParDecls, parameter_type, as_var, parameter_scope, declared_in}
+use Rattle.c_run.specs.Mentions.{said, in_declr, in_begin, in_item}
+use Rattle.c_rule.specs.RuleScope.{Env, Meaning, Alias, Thing, Function, in_scope, same_bool}
+use Rattle.c_rule.specs.RuleTypes.{is_function, joined}
+use Rattle.c_rule.specs.RuleDecls.{past_declr}
+use Rattle.c_rule.specs.RuleStmts.{is_static, missing}
+use Rattle.c_rule.specs.RuleUnit.{is_own, object_again, again, combined, DeclaresInFile, own_number, next_static, IsItemBy, AreItems, AreAliases, as_parameter, AreParameters, AreParDecls, parameter_type, as_var, parameter_scope, declared_in}
 use Rattle.c_sound.specs.Unit.{Declares, IsMeant}
 use Rattle.c_sound.proofs.Means.{Means, EntriesMean}
 use Rattle.c_sound.proofs.Stands.{IsDeclared, IsSaneName, Stands, OptionMeans, pick_is, scope_means, function_meant, statics_stand, declr_stands}

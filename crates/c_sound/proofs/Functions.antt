@@ -7,16 +7,16 @@ use Rattle.c_type.specs.Names.{Name, same_name, pick, or_else}
 use Rattle.c_type.specs.Types.{CType, fun, is_integer}
 use Rattle.c_tree.specs.TStmt.{Init}
 use Rattle.c_tree.specs.TUnit.{Func, TypedUnit, Program, funcs_of}
-use Rattle.c_tree.specs.RuleTypes.{is_function}
+use Rattle.c_rule.specs.RuleTypes.{is_function}
 use Rattle.c_tree.specs.Bodies.{BodyAt, bodies_from, body_in, body_named}
-use Rattle.c_tree.specs.Context.{Linked, Context, linked, context_of, own, outer, as_body, as_static, putchar_name, getchar_name, exit_name}
-use Rattle.c_tree.specs.Values.{Putchar, Getchar, Exit}
-use Rattle.c_tree.specs.Run.{main_name}
-use Rattle.c_tree.specs.Lasting.{OfName, lastings, number_in, said_from}
-use Rattle.c_tree.specs.Mentions.{Outside, in_exts}
-use Rattle.c_tree.specs.JoinSaid.{Event, Whose, External, Own, Outer, Saying, Declared, Common, Begun, Defined, Used, Named, Called, event, defined, of_function, events, Subject, external, static_in, function_of, of_body, subject, is_lacking, defines_static, declares_static, Fact, facts}
-use Rattle.c_tree.specs.JoinTypes.{Relation, TypeIn}
-use Rattle.c_tree.specs.JoinChecks.{int_type, library, is_there, is_name, in_library, same_subject, about, is_use, is_definition, is_undefined, given_type, first_type, type_in, declared_types, is_clash, is_twice, is_misfit, first_with, NoMain, Twice, Undefined, Clash, Arguments, is_body, has_main, refusal}
+use Rattle.c_run.specs.Context.{Linked, Context, linked, context_of, own, outer, as_body, as_static}
+use Rattle.c_tree.specs.Library.{putchar_name, getchar_name, exit_name, main_name}
+use Rattle.c_run.specs.Values.{Putchar, Getchar, Exit}
+use Rattle.c_run.specs.Lasting.{OfName, lastings, number_in, said_from}
+use Rattle.c_run.specs.Mentions.{Outside, in_exts}
+use Rattle.c_join.specs.JoinSaid.{Event, Whose, External, Own, Outer, Saying, Declared, Common, Begun, Defined, Used, Named, Called, event, defined, of_function, events, Subject, external, static_in, function_of, of_body, subject, is_lacking, defines_static, declares_static, Fact, facts}
+use Rattle.c_join.specs.JoinTypes.{Relation, TypeIn}
+use Rattle.c_join.specs.JoinChecks.{int_type, library, is_there, is_name, in_library, same_subject, about, is_use, is_definition, is_undefined, given_type, first_type, type_in, declared_types, is_clash, is_twice, is_misfit, first_with, NoMain, Twice, Undefined, Clash, Arguments, is_body, has_main, refusal}
 use Rattle.c_sound.specs.HasType.{like, BodyGives}
 use Rattle.c_sound.specs.Program.{IsThere, IsCallable, GivesInteger, IsMain}
 use Rattle.c_sound.proofs.Listed.{IsIn, in_first, in_second, in_map, in_filter, of_filter, in_filter_map, none_found, some_passes, passing}

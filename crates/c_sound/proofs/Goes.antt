@@ -2,12 +2,12 @@
 use Rattle.std.proofs.Common.{◌≡◌, List, [], ◌∷◌, Bool, true, false, refl}
 use Rattle.c_type.specs.Types.{CType, is_integer}
 use Rattle.c_tree.specs.TExpr.{TExpr, type_of}
-use Rattle.c_tree.specs.Values.{Value}
-use Rattle.c_tree.specs.State.{State, Out, Gave, Halt, bind, choose}
-use Rattle.c_tree.specs.Context.{Linked, Context}
-use Rattle.c_tree.specs.Exprs.{Arg, Call, value}
-use Rattle.c_tree.specs.RuleTypes.{is_function}
-use Rattle.c_tree.specs.RuleValues.{is_scalar}
+use Rattle.c_run.specs.Values.{Value}
+use Rattle.c_run.specs.State.{State, Out, Gave, Halt, bind, choose}
+use Rattle.c_run.specs.Context.{Linked, Context}
+use Rattle.c_run.specs.Exprs.{Arg, Call, value}
+use Rattle.c_rule.specs.RuleTypes.{is_function}
+use Rattle.c_rule.specs.RuleValues.{is_scalar}
 use Rattle.c_sound.specs.HasType.{HasType, IsFunction, Holds}
 use Rattle.c_sound.specs.Suits.{Suits, is_used}
 use Rattle.c_sound.specs.Program.{IsBound, HasText, HaveSizes, IsNamed}

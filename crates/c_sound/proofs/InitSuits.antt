@@ -8,8 +8,8 @@ use Rattle.c_type.specs.Types.{CType, num, void, ptr, arr, struct, union, enum, 
 use Rattle.c_tree.specs.TreeDecl as ud
 use Rattle.c_tree.specs.TreeExpr.{Expr}
 use Rattle.c_tree.specs.TStmt as st
-use Rattle.c_tree.specs.RuleScope.{Env, is_sized}
-use Rattle.c_tree.specs.RuleDecls.{part_types, fills_chars, IsSingle, IsInit, AreInits, Begins}
+use Rattle.c_rule.specs.RuleScope.{Env, is_sized}
+use Rattle.c_rule.specs.RuleDecls.{part_types, fills_chars, IsSingle, IsInit, AreInits, Begins}
 use Rattle.c_sound.specs.Unit.{Declares, IsMeant, AnyText}
 use Rattle.c_sound.specs.Suits.{SuitsInit, SuitInits, SuitsBegin}
 use Rattle.c_sound.proofs.Stands.{IsSane, SaneMembers, SaneTags, Stands, members_at, past_stands}

@@ -9,18 +9,18 @@ use Rattle.c_type.specs.Types.{CType, Tag}
 use Rattle.c_tree.specs.TExpr as e
 use Rattle.c_tree.specs.TExpr.{Ref}
 use Rattle.c_tree.specs.TStmt.{Init}
-use Rattle.c_tree.specs.TUnit.{Func, TypedUnit, Program, funcs_of}
+use Rattle.c_tree.specs.TUnit.{Func, TypedUnit, Program, funcs_of, no_unit}
 use Rattle.c_tree.specs.Bodies.{BodyAt, bodies_from}
-use Rattle.c_tree.specs.Context.{Linked, linked, context_of, context, no_unit}
-use Rattle.c_tree.specs.Lasting.{Lasting, Said, said_from, lastings}
-use Rattle.c_tree.specs.Mentions as ment
-use Rattle.c_tree.specs.Mentions.{Mention, Text, Use, Extern, Outside, in_exts}
-use Rattle.c_tree.specs.Numbers.{own_numbers}
-use Rattle.c_tree.specs.RuleTypes.{is_function}
-use Rattle.c_tree.specs.JoinSaid as said
-use Rattle.c_tree.specs.JoinSaid.{Whose, External, Hidden, Saying, Declared, Common, Begun, Defined, Used, Named, Called, Event, event, events, facts}
-use Rattle.c_tree.specs.JoinTypes.{Relation}
-use Rattle.c_tree.specs.JoinChecks.{same_class, refusal}
+use Rattle.c_run.specs.Context.{Linked, linked, context_of, context}
+use Rattle.c_run.specs.Lasting.{Lasting, Said, said_from, lastings}
+use Rattle.c_run.specs.Mentions as ment
+use Rattle.c_run.specs.Mentions.{Mention, Text, Use, Extern, Outside, in_exts}
+use Rattle.c_run.specs.Numbers.{own_numbers}
+use Rattle.c_rule.specs.RuleTypes.{is_function}
+use Rattle.c_join.specs.JoinSaid as said
+use Rattle.c_join.specs.JoinSaid.{Whose, External, Hidden, Saying, Declared, Common, Begun, Defined, Used, Named, Called, Event, event, events, facts}
+use Rattle.c_join.specs.JoinTypes.{Relation}
+use Rattle.c_join.specs.JoinChecks.{same_class, refusal}
 use Rattle.c_sound.specs.Suits.{SuitsFunc, SuitsBegin}
 use Rattle.c_sound.specs.Unit.{gives_object, is_external, declares_object, MeantIn, AnyText, SuitFuncs, SuitMentions, SuitsUnit}
 use Rattle.c_sound.specs.Program.{IsBound, HasText, HaveSizes, SuitsBody, SuitBodies, SuitsLasting, SuitLastings, SuitsProgram}

@@ -4,9 +4,9 @@ use Rattle.c_type.specs.Names.{Name}
 use Rattle.c_type.specs.Types.{CType}
 use Rattle.c_tree.specs.TStmt.{Init}
 use Rattle.c_tree.specs.TUnit.{TypedUnit}
-use Rattle.c_tree.specs.RuleTypes.{is_function}
-use Rattle.c_tree.specs.JoinSaid.{Event, External, Saying, Declared, Common, Begun, Defined, Used, Named, Called}
-use Rattle.c_tree.specs.Mentions.{Outside, in_exts}
+use Rattle.c_rule.specs.RuleTypes.{is_function}
+use Rattle.c_join.specs.JoinSaid.{Event, External, Saying, Declared, Common, Begun, Defined, Used, Named, Called}
+use Rattle.c_run.specs.Mentions.{Outside, in_exts}
 use Rattle.c_sound.proofs.Listed.{IsIn}
 
 -- a declaration of an object

@@ -8,7 +8,7 @@ use Rattle.c_tree.specs.TExpr as e
 use Rattle.c_tree.specs.TExpr.{TExpr, Ref, type_of}
 use Rattle.c_tree.specs.declared.TBinary.TheVariants.{Add, Sub}
 use Rattle.c_tree.specs.Constant.{constant, given, is_zero, is_zero_option, is_nonzero}
-use Rattle.c_tree.specs.RuleDecls.{is_some, is_known, place_spot, pointer_spot, is_function_address, moved_elements}
+use Rattle.c_rule.specs.RuleDecls.{is_some, is_known, place_spot, pointer_spot, is_function_address, moved_elements}
 use Rattle.c_sound.specs.Suits.{Suits}
 use Rattle.c_sound.proofs.RuleSuits.{or_cases}
 use Rattle.std.proofs.lemmas.Bool.{and_parts}

@@ -2,8 +2,8 @@
 use Rattle.std.proofs.Common.{◌≡◌, List, [], ◌∷◌, true, false}
 use Rattle.c_type.specs.Types.{CType}
 use Rattle.c_tree.specs.TExpr.{Ref}
-use Rattle.c_tree.specs.RuleScope.{Meaning, Alias, Constant, Thing, Function, Entry}
-use Rattle.c_tree.specs.RuleTypes.{is_function}
+use Rattle.c_rule.specs.RuleScope.{Meaning, Alias, Constant, Thing, Function, Entry}
+use Rattle.c_rule.specs.RuleTypes.{is_function}
 
 abbrev pub Means : (R : CType → Ref → Type 0) → Meaning → Type 0
 Means R (Alias t) = Unit {0}

@@ -5,14 +5,14 @@ use Rattle.c_type.specs.Names.{pick}
 use Rattle.c_type.specs.Types.{CType, num, void, ptr, arr, struct, union, enum, fun, same_type}
 use Rattle.c_type.specs.Sizes.{size}
 use Rattle.c_type.specs.Cells.{Cell, cells}
-use Rattle.c_tree.specs.Values as v
-use Rattle.c_tree.specs.Values.{Object, Target, Body, Putchar, Getchar, Exit, Value, Num, Null, To, Fn, same_object, same_target, same_value, suits, zero_of}
-use Rattle.c_tree.specs.State.{State, Thing, Slot, Act, Out, Gave, Halt, bind, choose, slot_is, read_slot, write_slot, type_at, in_chain, thing, set_chain, set_thing, put_cell, Change, holds_slot, holds_thing, holds_act, is_held, is_given, written, change_cell, change_thing, apply}
-use Rattle.c_tree.specs.Context.{Linked, Context, shared, shared_cells, cells_in, zero_slots, fresh}
-use Rattle.c_tree.specs.Pointers.{leaves, given_or, read_thing, read, load, write_cell, write_thing, write, store, read_cells, write_cells, and_cons, look_thing, look, overlap, paste_thing, paste, copy}
-use Rattle.c_tree.specs.RuleTypes.{is_function}
-use Rattle.c_tree.specs.RuleValues.{is_scalar}
-use Rattle.c_tree.proofs.Suited.{same_is}
+use Rattle.c_run.specs.Values as v
+use Rattle.c_run.specs.Values.{Object, Target, Body, Putchar, Getchar, Exit, Value, Num, Null, To, Fn, same_object, same_target, same_value, suits, zero_of}
+use Rattle.c_run.specs.State.{State, Thing, Slot, Act, Out, Gave, Halt, bind, choose, slot_is, read_slot, write_slot, type_at, in_chain, thing, set_chain, set_thing, put_cell, Change, holds_slot, holds_thing, holds_act, is_held, is_given, written, change_cell, change_thing, apply}
+use Rattle.c_run.specs.Context.{Linked, Context, shared, shared_cells, cells_in, zero_slots, fresh}
+use Rattle.c_run.specs.Pointers.{leaves, given_or, read_thing, read, load, write_cell, write_thing, write, store, read_cells, write_cells, and_cons, look_thing, look, overlap, paste_thing, paste, copy}
+use Rattle.c_rule.specs.RuleTypes.{is_function}
+use Rattle.c_rule.specs.RuleValues.{is_scalar}
+use Rattle.c_run.proofs.Suited.{same_is}
 use Rattle.c_sound.specs.HasType.{HasType, HoldSlots, HoldsThing, HoldThings, HoldActs, Holds}
 use Rattle.c_sound.specs.Program.{HaveSizes}
 use Rattle.c_sound.proofs.Goes.{Goes, goes_bind, goes_choose}

@@ -11,8 +11,8 @@ use Rattle.c_tree.specs.TStmt as st
 use Rattle.c_tree.specs.TStmt.{Declr, Init, Inits}
 use Rattle.c_tree.specs.TUnit as u
 use Rattle.c_tree.specs.TUnit.{Spec, Mems}
-use Rattle.c_tree.specs.Numbers.{own_numbers}
-use Rattle.c_tree.specs.Mentions.{Mention, Text, Use, Extern, Own, Outside, used, in_expr, in_args, in_option, in_declr, in_init, in_inits, in_begin, in_enumerator, in_spec, in_mems}
+use Rattle.c_run.specs.Numbers.{own_numbers}
+use Rattle.c_run.specs.Mentions.{Mention, Text, Use, Extern, Own, Outside, used, in_expr, in_args, in_option, in_declr, in_init, in_inits, in_begin, in_enumerator, in_spec, in_mems}
 use Rattle.c_sound.specs.Unit.{Declares, IsMeant, AnyText, SuitMentions}
 use Rattle.c_sound.proofs.Told.{Tells}
 

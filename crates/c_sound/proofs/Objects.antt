@@ -5,9 +5,9 @@ use Rattle.std.proofs.lemmas.Slice.Eq.{bytes_eq-Decides}
 use Rattle.std.proofs.lemmas.Bool.{eq-eqb}
 use Rattle.c_type.specs.Names.{Name, same_name, pick, at_or, or_else}
 use Rattle.c_type.specs.Types.{CType}
-use Rattle.c_tree.specs.Mentions.{Mention, Text, Use, Extern, Own, Outside}
-use Rattle.c_tree.specs.Lasting.{Origin, OfUnit, OfName, OfText, same_origin, Lasting, lasting, of_text, Said, begun_in, all_begun, is_among, unless_among, plain_in, all_plain, is_mentioned, names, common_in, first_common, add_common, commons, lastings_of, number_in}
-use Rattle.c_tree.specs.Context.{as_static}
+use Rattle.c_run.specs.Mentions.{Mention, Text, Use, Extern, Own, Outside}
+use Rattle.c_run.specs.Lasting.{Origin, OfUnit, OfName, OfText, same_origin, Lasting, lasting, of_text, Said, begun_in, all_begun, is_among, unless_among, plain_in, all_plain, is_mentioned, names, common_in, first_common, add_common, commons, lastings_of, number_in}
+use Rattle.c_run.specs.Context.{as_static}
 use Rattle.c_sound.specs.Program.{IsThere}
 use Rattle.c_sound.proofs.Listed.{IsIn, in_flat}
 

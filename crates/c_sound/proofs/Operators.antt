@@ -8,15 +8,15 @@ use Rattle.c_tree.specs.declared.TBinary.{TBinary}
 use Rattle.c_tree.specs.declared.TBinary.TheVariants.{Add, Sub}
 use Rattle.c_tree.specs.declared.TStep.{TStep}
 use Rattle.c_tree.specs.declared.TStep.TheVariants.{PreInc, PreDec, PostInc, PostDec}
-use Rattle.c_tree.specs.Values.{Value, Num, converted, Fault}
+use Rattle.c_run.specs.Values.{Value, Num, converted, Fault}
 use Rattle.c_tree.specs.Arith.{may_trap, two_numbers}
-use Rattle.c_tree.specs.State.{State, Out, Gave, Halt, choose}
-use Rattle.c_tree.specs.Context.{Linked, Context}
-use Rattle.c_tree.specs.Pointers.{load, store, add_to, two_pointers}
-use Rattle.c_tree.specs.Exprs.{numbers, element, pointer_first, pointer_second, operate, step_op, new_or_old, updated, stepped}
-use Rattle.c_tree.specs.RuleValues.{is_scalar, is_object_pointer}
-use Rattle.c_tree.specs.RuleExprs.{is_number}
-use Rattle.c_tree.proofs.Suited.{same_is}
+use Rattle.c_run.specs.State.{State, Out, Gave, Halt, choose}
+use Rattle.c_run.specs.Context.{Linked, Context}
+use Rattle.c_run.specs.Pointers.{load, store, add_to, two_pointers}
+use Rattle.c_run.specs.Exprs.{numbers, element, pointer_first, pointer_second, operate, step_op, new_or_old, updated, stepped}
+use Rattle.c_rule.specs.RuleValues.{is_scalar, is_object_pointer}
+use Rattle.c_rule.specs.RuleExprs.{is_number}
+use Rattle.c_run.proofs.Suited.{same_is}
 use Rattle.c_sound.specs.HasType.{IsPlace, PointsTo, HasType, Holds}
 use Rattle.c_sound.specs.Suits.{is_wide, is_used, converts, compares, is_add, is_move, binary_suits}
 use Rattle.c_sound.proofs.Goes.{Goes, goes_bind, goes_choose}

@@ -1,7 +1,7 @@
 -- Outcomes of rules: what a rule gives is as wanted.
 use Rattle.std.proofs.Common.{◌≡◌, ℕ, Bool, true, false, refl, subst}
 use Rattle.c_type.specs.Names.{pick}
-use Rattle.c_tree.specs.RuleScope.{Judged, Is, Fails, onward, provided}
+use Rattle.c_rule.specs.RuleScope.{Judged, Is, Fails, onward, provided}
 
 -- what a rule gives is as wanted
 abbrev pub Each : {A : Type 0} → (A → Type 0) → Judged A → Type 0

@@ -9,12 +9,12 @@ use Rattle.c_tree.specs.TStmt as st
 use Rattle.c_tree.specs.TStmt.{Declr, Local, LocalDecl, TStmt, TStmts, TItems, locals}
 use Rattle.c_tree.specs.Bodies.{Auto}
 use Rattle.c_tree.specs.Starts.{Start, at}
-use Rattle.c_tree.specs.Mentions.{Mention, in_expr, in_option, in_begin, in_init, in_inits, in_declr}
-use Rattle.c_tree.specs.Numbers.{text_numbers, own_numbers}
-use Rattle.c_tree.specs.RuleScope.{Judged, Env, past, past_option, started}
-use Rattle.c_tree.specs.RuleTree.{Gives}
-use Rattle.c_tree.specs.RuleDecls.{past_declr, IsDeclr, fills_chars, IsSingle, IsInit, AreInits, Begins, part_types, first_value}
-use Rattle.c_tree.specs.RuleStmts.{Maybe}
+use Rattle.c_run.specs.Mentions.{Mention, in_expr, in_option, in_begin, in_init, in_inits, in_declr}
+use Rattle.c_run.specs.Numbers.{text_numbers, own_numbers}
+use Rattle.c_rule.specs.RuleScope.{Judged, Env, past, past_option, started}
+use Rattle.c_rule.specs.RuleTree.{Gives}
+use Rattle.c_rule.specs.RuleDecls.{past_declr, IsDeclr, fills_chars, IsSingle, IsInit, AreInits, Begins, part_types, first_value}
+use Rattle.c_rule.specs.RuleStmts.{Maybe}
 use Rattle.c_sound.proofs.Counts.{Counts, counts_both}
 use Rattle.c_sound.proofs.RuleSays.{Says, first_says}
 use Rattle.c_sound.proofs.TextOrder.{texts_both, own_both, own_none, gives_texts, derived_texts}

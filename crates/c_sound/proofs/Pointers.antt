@@ -5,13 +5,13 @@ use Rattle.c_type.specs.Names.{pick}
 use Rattle.c_type.specs.Types.{CType, num, void, ptr, arr, struct, union, enum, fun}
 use Rattle.c_tree.specs.declared.TBinary.{TBinary}
 use Rattle.c_tree.specs.declared.TBinary.TheVariants.{Mul, Div, Rem, Add, Sub, Shl, Shr, Lt, Gt, Le, Ge, Eq, Ne, BitAnd, BitXor, BitOr}
-use Rattle.c_tree.specs.Values.{Object, Value, Num, Null, To, Fn, same_object, truth}
+use Rattle.c_run.specs.Values.{Object, Value, Num, Null, To, Fn, same_object, truth}
 use Rattle.c_tree.specs.Arith.{sub32}
-use Rattle.c_tree.specs.State.{State, Thing, Gave, bind, choose, thing}
-use Rattle.c_tree.specs.Context.{Linked}
-use Rattle.c_tree.specs.Pointers.{leaves, moved_in, moved, add_to, as_pointer, beyond, is_end, equal_things, unequal_null, equal, offsets, apart, two_pointers}
-use Rattle.c_tree.specs.RuleTypes.{is_function}
-use Rattle.c_tree.specs.RuleValues.{is_object_pointer}
+use Rattle.c_run.specs.State.{State, Thing, Gave, bind, choose, thing}
+use Rattle.c_run.specs.Context.{Linked}
+use Rattle.c_run.specs.Pointers.{leaves, moved_in, moved, add_to, as_pointer, beyond, is_end, equal_things, unequal_null, equal, offsets, apart, two_pointers}
+use Rattle.c_rule.specs.RuleTypes.{is_function}
+use Rattle.c_rule.specs.RuleValues.{is_object_pointer}
 use Rattle.c_sound.specs.HasType.{IsFunction, IsPlace, PointsTo, HasType, HoldsThing, Holds}
 use Rattle.c_sound.specs.Suits.{is_wide, compares}
 use Rattle.c_sound.proofs.Goes.{Goes, goes_bind, goes_choose}

@@ -18,13 +18,13 @@ use Rattle.c_tree.specs.declared.expr.UnaryOp.TheVariants as uo
 use Rattle.c_tree.specs.declared.expr.AssignOp.{AssignOp}
 use Rattle.c_tree.specs.declared.expr.BinaryOp.{BinaryOp}
 use Rattle.c_tree.specs.declared.expr.UnaryOp.{UnaryOp}
-use Rattle.c_tree.specs.Mentions.{Mention, in_expr}
-use Rattle.c_tree.specs.RuleScope.{Judged, Is, onward, provided, Env, known, is_sized}
-use Rattle.c_tree.specs.RuleTypes.{is_void, is_function}
-use Rattle.c_tree.specs.RuleExprs as r
-use Rattle.c_tree.specs.RuleExprs.{is_number, is_structure}
-use Rattle.c_tree.specs.RuleValues.{target_is_sized, used, used_as, to_type, wide, widen, meeting, integer, scalar, is_scalar, is_object_pointer, is_place, is_open, is_taken, taken, value_for, are_alike, are_integers, is_with_zero}
-use Rattle.c_tree.specs.RuleDecls.{first_value, is_known}
+use Rattle.c_run.specs.Mentions.{Mention, in_expr}
+use Rattle.c_rule.specs.RuleScope.{Judged, Is, onward, provided, Env, known, is_sized}
+use Rattle.c_rule.specs.RuleTypes.{is_void, is_function}
+use Rattle.c_rule.specs.RuleExprs as r
+use Rattle.c_rule.specs.RuleExprs.{is_number, is_structure}
+use Rattle.c_rule.specs.RuleValues.{target_is_sized, used, used_as, to_type, wide, widen, meeting, integer, scalar, is_scalar, is_object_pointer, is_place, is_open, is_taken, taken, value_for, are_alike, are_integers, is_with_zero}
+use Rattle.c_rule.specs.RuleDecls.{first_value, is_known}
 use Rattle.c_sound.proofs.Outcomes.{Each, onward_each, provided_each}
 
 -- outcomes

@@ -22,12 +22,12 @@ use Rattle.c_tree.specs.declared.expr.BinaryOp.{BinaryOp}
 use Rattle.c_tree.specs.declared.expr.UnaryOp.{UnaryOp}
 use Rattle.c_tree.specs.declared.TBinary.{TBinary}
 use Rattle.c_tree.specs.declared.TBinary.TheVariants.{Mul, Div, Rem, Add, Sub, Shl, Shr, Lt, Gt, Le, Ge, Eq, Ne, BitAnd, BitXor, BitOr}
-use Rattle.c_tree.specs.RuleScope.{Judged, Is, onward, provided, Env, Meaning, Alias, Constant, Thing, Function, known, is_sized, function_ref}
-use Rattle.c_tree.specs.RuleTypes.{is_void, void_is_a_result, is_function, elements_are_objects, functions_return, may_return}
-use Rattle.c_tree.specs.RuleExprs as r
-use Rattle.c_tree.specs.RuleExprs.{is_number, is_structure}
-use Rattle.c_tree.specs.RuleValues.{target_is_sized, used, used_as, to_type, wide, widen, meeting, integer, scalar, is_scalar, is_object_pointer, is_place, is_variable, is_open, is_taken, taken, value_for, are_alike, are_integers, is_with_zero}
-use Rattle.c_tree.proofs.Suited.{same_is}
+use Rattle.c_rule.specs.RuleScope.{Judged, Is, onward, provided, Env, Meaning, Alias, Constant, Thing, Function, known, is_sized, function_ref}
+use Rattle.c_rule.specs.RuleTypes.{is_void, void_is_a_result, is_function, elements_are_objects, functions_return, may_return}
+use Rattle.c_rule.specs.RuleExprs as r
+use Rattle.c_rule.specs.RuleExprs.{is_number, is_structure}
+use Rattle.c_rule.specs.RuleValues.{target_is_sized, used, used_as, to_type, wide, widen, meeting, integer, scalar, is_scalar, is_object_pointer, is_place, is_variable, is_open, is_taken, taken, value_for, are_alike, are_integers, is_with_zero}
+use Rattle.c_run.proofs.Suited.{same_is}
 use Rattle.c_sound.specs.Unit.{Declares, IsMeant, AnyText}
 use Rattle.c_sound.proofs.Stands.{void_in_place, IsSane, IsDeclared, IsSaneName, SaneMembers, SaneTags, members_at, function_meant, OptionMeans}
 use Rattle.c_sound.specs.Suits.{Suits, SuitArgs, callee, is_used, is_wide, converts, unary_suits, binary_suits, is_move, compares}

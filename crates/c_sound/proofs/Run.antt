@@ -8,17 +8,18 @@ use Rattle.c_type.specs.Sizes.{size}
 use Rattle.c_type.specs.Types.{CType, num, void, ptr, arr, struct, union, enum, fun, Member}
 use Rattle.c_tree.specs.TExpr.{type_of}
 use Rattle.c_tree.specs.TStmt.{Init, Inits, single, bytes, group, no_inits, more_inits}
-use Rattle.c_tree.specs.Lasting.{Lasting}
+use Rattle.c_run.specs.Lasting.{Lasting}
 use Rattle.c_tree.specs.Bodies.{BodyAt, body_named}
-use Rattle.c_tree.specs.Values.{Object, Static, Value, Num, Null, To, Fn}
-use Rattle.c_tree.specs.State.{State, Out, bind, Acts, acts_of, no_changes}
-use Rattle.c_tree.specs.Context.{Context, Linked, linked, context_of}
-use Rattle.c_tree.specs.Pointers.{store}
-use Rattle.c_tree.specs.Exprs.{value}
-use Rattle.c_tree.specs.Stmts.{Given}
-use Rattle.c_tree.specs.Calls.{call_body, rest}
-use Rattle.c_tree.specs.Run.{no_call, put_bytes, dimension, array_parts, parts, begin_as, begin_parts, begin_static, begin_statics, zero_statics, blank, first_state, ended, call_main, main_name, run_linked}
-use Rattle.c_tree.specs.RuleDecls.{part_types}
+use Rattle.c_run.specs.Values.{Object, Static, Value, Num, Null, To, Fn}
+use Rattle.c_run.specs.State.{State, Out, bind, Acts, acts_of, no_changes}
+use Rattle.c_run.specs.Context.{Context, Linked, linked, context_of}
+use Rattle.c_run.specs.Pointers.{store}
+use Rattle.c_run.specs.Exprs.{value}
+use Rattle.c_run.specs.Stmts.{Given}
+use Rattle.c_run.specs.Calls.{call_body, rest}
+use Rattle.c_run.specs.Run.{no_call, put_bytes, dimension, array_parts, parts, begin_as, begin_parts, begin_static, begin_statics, zero_statics, blank, first_state, ended, call_main, run_linked}
+use Rattle.c_tree.specs.Library.{main_name}
+use Rattle.c_rule.specs.RuleDecls.{part_types}
 use Rattle.c_sound.specs.HasType.{like, HasType, Holds, HoldThings, AreBytes}
 use Rattle.c_sound.specs.Suits.{SuitsInit, SuitInits, SuitsBegin}
 use Rattle.c_sound.specs.Program.{IsBound, HasText, HaveSizes, SuitLastings, GivesInteger, IsMain, SuitsProgram}

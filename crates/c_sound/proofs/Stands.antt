@@ -5,11 +5,11 @@ use Rattle.c_type.specs.Names.{Name, same_name, pick, at_or, or_else}
 use Rattle.c_type.specs.Types.{CType, Tag, Member}
 use Rattle.c_type.specs.Sizes.{no_tag}
 use Rattle.c_tree.specs.TExpr.{Ref}
-use Rattle.c_tree.specs.RuleScope.{Env, Meaning, Entry, Body, in_scope, in_scopes, meaning_of, same_bool, body_from, ref_or_outer, function_ref, is_sized, past, past_option, started}
+use Rattle.c_rule.specs.RuleScope.{Env, Meaning, Entry, Body, in_scope, in_scopes, meaning_of, same_bool, body_from, ref_or_outer, function_ref, is_sized, past, past_option, started}
 use Rattle.c_tree.specs.TreeDecl as ud
 use Rattle.c_tree.specs.TreeExpr.{Expr}
-use Rattle.c_tree.specs.RuleDecls.{past_declr}
-use Rattle.c_tree.specs.RuleTypes.{is_void, void_is_a_result, is_function, elements_are_objects, functions_return}
+use Rattle.c_rule.specs.RuleDecls.{past_declr}
+use Rattle.c_rule.specs.RuleTypes.{is_void, void_is_a_result, is_function, elements_are_objects, functions_return}
 use Rattle.c_sound.specs.Unit.{Declares, IsMeant}
 use Rattle.c_sound.proofs.Means.{Means, ScopesMean, EntriesMean}
 

@@ -5,14 +5,14 @@ use Rattle.std.proofs.lemmas.Bool.{and_parts}
 use Rattle.c_type.specs.Types.{CType, same_type}
 use Rattle.c_tree.specs.TExpr.{TExpr, type_of}
 use Rattle.c_tree.specs.TStmt.{TStmt, expr, empty, if_only, if_else, while_, do_, for_, switch, break_, continue_, return_, block, TStmts, no_stmts, more_stmts, TItems, no_items, case_, default_, more_items, Local as Item, auto, auto_init, static_, extern_, function, locals}
-use Rattle.c_tree.specs.Values.{Local, Value, Num, Null, To, Fn, is_true}
-use Rattle.c_tree.specs.State.{State, Act, Out, Gave, bind, choose, Flow, Next, Broke, Continued, Returned, current, at_start, begun, Acts, stop_if, begin}
-use Rattle.c_tree.specs.Context.{Context, Linked, fresh}
-use Rattle.c_tree.specs.Pointers.{store}
-use Rattle.c_tree.specs.Exprs.{Call, value}
-use Rattle.c_tree.specs.Stmts.{Given, Rest, turn, after, around, out_of, next, perform, test, give_back, while_round, do_round, for_round, zero_auto, zero_local, zero_block, begin_auto, init, inits, has_case, has_default, select, stmt, loop, stmts, items, from_case, from_default}
-use Rattle.c_tree.specs.RuleValues.{is_scalar}
-use Rattle.c_tree.proofs.Suited.{same_is}
+use Rattle.c_run.specs.Values.{Local, Value, Num, Null, To, Fn, is_true}
+use Rattle.c_run.specs.State.{State, Act, Out, Gave, bind, choose, Flow, Next, Broke, Continued, Returned, current, at_start, begun, Acts, stop_if, begin}
+use Rattle.c_run.specs.Context.{Context, Linked, fresh}
+use Rattle.c_run.specs.Pointers.{store}
+use Rattle.c_run.specs.Exprs.{Call, value}
+use Rattle.c_run.specs.Stmts.{Given, Rest, turn, after, around, out_of, next, perform, test, give_back, while_round, do_round, for_round, zero_auto, zero_local, zero_block, begin_auto, init, inits, has_case, has_default, select, stmt, loop, stmts, items, from_case, from_default}
+use Rattle.c_rule.specs.RuleValues.{is_scalar}
+use Rattle.c_run.proofs.Suited.{same_is}
 use Rattle.c_sound.specs.HasType.{HasType, Holds, HoldActs}
 use Rattle.c_sound.specs.Suits.{Suits, SuitsHere, SuitsOption, SuitsLocal, SuitLocals, SuitsStmt, SuitStmts, SuitItems, is_used, is_taken_as}
 use Rattle.c_sound.specs.Program.{IsBound, HasText, HaveSizes}

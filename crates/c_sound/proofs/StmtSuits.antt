@@ -13,14 +13,14 @@ use Rattle.c_tree.specs.TreeStmt as us
 use Rattle.c_tree.specs.TExpr as e
 use Rattle.c_tree.specs.TExpr.{TExpr}
 use Rattle.c_tree.specs.TStmt.{Declr, Local, LocalDecl, TStmt, TStmts, TItems, locals}
-use Rattle.c_tree.specs.Mentions.{Mention, in_expr, in_option, in_declr, in_begin, in_local, in_stmt, in_stmts, in_items}
-use Rattle.c_tree.specs.RuleScope.{Env, Entry, Meaning, Alias, Constant, Thing, Function, in_scope, known, is_sized, past, past_option, started}
-use Rattle.c_tree.specs.RuleTypes.{is_function, declared_type, joined}
-use Rattle.c_tree.specs.RuleValues.{used, scalar, is_scalar}
-use Rattle.c_tree.specs.RuleTree.{Gives}
-use Rattle.c_tree.specs.RuleDecls.{past_declr, IsDeclr}
-use Rattle.c_tree.specs.RuleStmts as rs
-use Rattle.c_tree.specs.RuleStmts.{added, enter, leave, declr_line, with_earlier, is_static, IsLocalBy, AreLocals, AreDecls, Place, in_loop, in_switch, Maybe, returned, IsStmt, AreStmts, AreItems}
+use Rattle.c_run.specs.Mentions.{Mention, in_expr, in_option, in_declr, in_begin, in_local, in_stmt, in_stmts, in_items}
+use Rattle.c_rule.specs.RuleScope.{Env, Entry, Meaning, Alias, Constant, Thing, Function, in_scope, known, is_sized, past, past_option, started}
+use Rattle.c_rule.specs.RuleTypes.{is_function, declared_type, joined}
+use Rattle.c_rule.specs.RuleValues.{used, scalar, is_scalar}
+use Rattle.c_rule.specs.RuleTree.{Gives}
+use Rattle.c_rule.specs.RuleDecls.{past_declr, IsDeclr}
+use Rattle.c_rule.specs.RuleStmts as rs
+use Rattle.c_rule.specs.RuleStmts.{added, enter, leave, declr_line, with_earlier, is_static, IsLocalBy, AreLocals, AreDecls, Place, in_loop, in_switch, Maybe, returned, IsStmt, AreStmts, AreItems}
 use Rattle.c_sound.specs.Unit.{Declares, IsMeant, AnyText, SuitMentions}
 use Rattle.c_sound.specs.Suits.{SuitsHere, SuitsOption, SuitsLocal, SuitLocals, SuitsStmt, SuitStmts, SuitItems, is_used, is_taken_as}
 use Rattle.c_sound.proofs.Means.{Means, ScopesMean}

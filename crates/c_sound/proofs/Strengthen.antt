@@ -7,12 +7,12 @@ use Rattle.c_tree.specs.TExpr.{TExpr, TArgs, Ref}
 use Rattle.c_tree.specs.TStmt as st
 use Rattle.c_tree.specs.TStmt.{Init, Inits, Local, TStmt, TStmts, TItems, locals}
 use Rattle.c_tree.specs.TUnit.{Func}
-use Rattle.c_tree.specs.JoinSaid as said
-use Rattle.c_tree.specs.JoinSaid.{Event}
-use Rattle.c_tree.specs.Mentions as ment
-use Rattle.c_tree.specs.Mentions.{Mention, Text}
-use Rattle.c_tree.specs.RuleDecls.{part_types}
-use Rattle.c_tree.specs.RuleValues.{is_scalar}
+use Rattle.c_join.specs.JoinSaid as said
+use Rattle.c_join.specs.JoinSaid.{Event}
+use Rattle.c_run.specs.Mentions as ment
+use Rattle.c_run.specs.Mentions.{Mention, Text}
+use Rattle.c_rule.specs.RuleDecls.{part_types}
+use Rattle.c_rule.specs.RuleValues.{is_scalar}
 use Rattle.c_sound.specs.Suits.{is_used, is_taken_as, Suits, SuitArgs, SuitsHere, SuitsOption, SuitsLocal, SuitLocals, SuitsStmt, SuitStmts, SuitItems, SuitsFunc, SuitsInit, SuitInits, SuitsBegin}
 use Rattle.c_sound.proofs.Listed.{IsIn, Within, in_first, in_second}
 

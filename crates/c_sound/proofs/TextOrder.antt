@@ -10,14 +10,14 @@ use Rattle.c_tree.specs.TreeDecl as ud
 use Rattle.c_tree.specs.TExpr as e
 use Rattle.c_tree.specs.TExpr.{TExpr, TArgs, Ref, type_of}
 use Rattle.c_tree.specs.Constant.{constant}
-use Rattle.c_tree.specs.Mentions.{Mention, Text, Use, Extern, Own, Outside, in_expr, in_args}
-use Rattle.c_tree.specs.Numbers.{text_numbers, own_numbers}
-use Rattle.c_tree.specs.RuleScope.{Judged, Is, Fails, Env, Meaning, Alias, Constant, Thing, Function, function_ref, past, meaning_of}
-use Rattle.c_tree.specs.RuleTexts.{texts_in, texts_in_all}
-use Rattle.c_tree.specs.RuleValues.{used, scalar}
-use Rattle.c_tree.specs.RuleExprs as r
-use Rattle.c_tree.specs.RuleTree.{IsExpr, IsCalled, AreArgs, Gives}
-use Rattle.c_tree.specs.RuleDecls.{Number, with_bits, constant_of, IsConstant, is_positive, dimension_of, past_declr, IsDerived}
+use Rattle.c_run.specs.Mentions.{Mention, Text, Use, Extern, Own, Outside, in_expr, in_args}
+use Rattle.c_run.specs.Numbers.{text_numbers, own_numbers}
+use Rattle.c_rule.specs.RuleScope.{Judged, Is, Fails, Env, Meaning, Alias, Constant, Thing, Function, function_ref, past, meaning_of}
+use Rattle.c_rule.specs.RuleTexts.{texts_in, texts_in_all}
+use Rattle.c_rule.specs.RuleValues.{used, scalar}
+use Rattle.c_rule.specs.RuleExprs as r
+use Rattle.c_rule.specs.RuleTree.{IsExpr, IsCalled, AreArgs, Gives}
+use Rattle.c_rule.specs.RuleDecls.{Number, with_bits, constant_of, IsConstant, is_positive, dimension_of, past_declr, IsDerived}
 use Rattle.c_sound.proofs.Counts.{Counts, counts_both}
 use Rattle.c_sound.proofs.RuleSays as s
 use Rattle.c_sound.proofs.Outcomes.{Each, onward_each, provided_each, each_is}

@@ -18,16 +18,16 @@ use Rattle.c_tree.specs.TStmt.{Init, Inits, Declr, Local, LocalDecl, TStmt, TStm
 use Rattle.c_tree.specs.TUnit as u
 use Rattle.c_tree.specs.TUnit.{Enumerator, Spec, Mems, ParDecl, Item, Func, TExt}
 use Rattle.c_tree.specs.declared.typed_unit.Bound.TheVariants as bd
-use Rattle.c_tree.specs.Mentions as m
-use Rattle.c_tree.specs.Mentions.{Mention, Text, Use, Extern, Own, Outside, in_expr, in_args, in_init, in_inits, in_begin, in_option, in_declr, in_enumerator, in_spec, in_mems, in_pars, in_local, in_stmt, in_stmts, in_items, in_item, in_exts}
-use Rattle.c_tree.specs.JoinSaid as j
-use Rattle.c_tree.specs.JoinSaid.{Event}
-use Rattle.c_tree.specs.RuleScope.{Env}
-use Rattle.c_tree.specs.RuleTypes.{is_function}
-use Rattle.c_tree.specs.RuleDecls.{past_declr}
-use Rattle.c_tree.specs.RuleStmts.{is_static, IsLocalBy, AreLocals, AreDecls, Place, in_loop, in_switch, IsStmt, AreStmts, AreItems}
-use Rattle.c_tree.specs.RuleUnit as r
-use Rattle.c_tree.specs.RuleUnit.{IsItemBy, at_body, IsBody, IsExt, AreExts}
+use Rattle.c_run.specs.Mentions as m
+use Rattle.c_run.specs.Mentions.{Mention, Text, Use, Extern, Own, Outside, in_expr, in_args, in_init, in_inits, in_begin, in_option, in_declr, in_enumerator, in_spec, in_mems, in_pars, in_local, in_stmt, in_stmts, in_items, in_item, in_exts}
+use Rattle.c_join.specs.JoinSaid as j
+use Rattle.c_join.specs.JoinSaid.{Event}
+use Rattle.c_rule.specs.RuleScope.{Env}
+use Rattle.c_rule.specs.RuleTypes.{is_function}
+use Rattle.c_rule.specs.RuleDecls.{past_declr}
+use Rattle.c_rule.specs.RuleStmts.{is_static, IsLocalBy, AreLocals, AreDecls, Place, in_loop, in_switch, IsStmt, AreStmts, AreItems}
+use Rattle.c_rule.specs.RuleUnit as r
+use Rattle.c_rule.specs.RuleUnit.{IsItemBy, at_body, IsBody, IsExt, AreExts}
 use Rattle.c_sound.specs.Unit.{gives_object, declares_object}
 use Rattle.c_sound.proofs.Objects.{same_itself}
 

@@ -11,10 +11,10 @@ use Rattle.c_tree.specs.TUnit as u
 use Rattle.c_tree.specs.TUnit.{Enumerator, Spec, Mems, Item, ParDecl, Func, TExt, funcs_of}
 use Rattle.c_tree.specs.declared.typed_unit.Bound.{Bound}
 use Rattle.c_tree.specs.declared.typed_unit.Bound.TheVariants as bounds
-use Rattle.c_tree.specs.JoinSaid as said
-use Rattle.c_tree.specs.JoinSaid.{Event, Whose, External, Saying, Declared, Common, Begun, Defined, Used, Named, Called, event, defined, of_function}
-use Rattle.c_tree.specs.Mentions as ment
-use Rattle.c_tree.specs.Mentions.{Mention, Text, Use, Extern, Outside, in_exts}
+use Rattle.c_join.specs.JoinSaid as said
+use Rattle.c_join.specs.JoinSaid.{Event, Whose, External, Saying, Declared, Common, Begun, Defined, Used, Named, Called, event, defined, of_function}
+use Rattle.c_run.specs.Mentions as ment
+use Rattle.c_run.specs.Mentions.{Mention, Text, Use, Extern, Outside, in_exts}
 use Rattle.c_sound.proofs.Listed.{IsIn, Within, in_first, in_second, in_either}
 use Rattle.c_sound.proofs.Strengthen.{SaidIn}
 

@@ -3,8 +3,8 @@ use Rattle.std.proofs.Common.{◌≡◌, true, refl}
 use Rattle.std.specs.Prelude.{nat_eq}
 use Rattle.std.proofs.lemmas.Bool.{and_from, or_left, eq-eqb}
 use Rattle.c_type.specs.Types.{CType, num, void, ptr, arr, struct, union, enum, fun, same_type, is_integer, is_pointer, kind_code}
-use Rattle.c_tree.specs.RuleTypes.{is_void, is_function}
-use Rattle.c_tree.specs.RuleValues.{is_scalar, is_object_pointer}
+use Rattle.c_rule.specs.RuleTypes.{is_void, is_function}
+use Rattle.c_rule.specs.RuleValues.{is_scalar, is_object_pointer}
 use Rattle.c_sound.specs.Suits.{is_used, is_wide}
 use Rattle.c_sound.proofs.Goes.{is_valued}
 

@@ -8,12 +8,12 @@ use Rattle.c_type.specs.Kinds.{kind_size}
 use Rattle.c_type.specs.Types.{CType, num, void, ptr, arr, struct, union, enum, fun, Tag, same_type, is_integer}
 use Rattle.c_type.specs.Sizes.{size, capped, no_tag}
 use Rattle.c_tree.specs.Bodies.{BodyAt}
-use Rattle.c_tree.specs.Values.{Target, Body, Putchar, Getchar, Exit, Value, Num, Null, To, Fn, converted, suits, zero_of, truth}
-use Rattle.c_tree.specs.Context.{Linked, shared}
-use Rattle.c_tree.specs.Calls.{int_type}
-use Rattle.c_tree.specs.RuleTypes.{is_function}
-use Rattle.c_tree.specs.RuleValues.{is_scalar}
-use Rattle.c_tree.proofs.Suited.{same_is}
+use Rattle.c_run.specs.Values.{Target, Body, Putchar, Getchar, Exit, Value, Num, Null, To, Fn, converted, suits, zero_of, truth}
+use Rattle.c_run.specs.Context.{Linked, shared}
+use Rattle.c_run.specs.Calls.{int_type}
+use Rattle.c_rule.specs.RuleTypes.{is_function}
+use Rattle.c_rule.specs.RuleValues.{is_scalar}
+use Rattle.c_run.proofs.Suited.{same_is}
 use Rattle.c_sound.specs.HasType.{like, BodyGives, Gives, IsFunction, IsPlace, PointsTo, HasType}
 use Rattle.c_sound.specs.Suits.{is_wide, is_used, converts}
 use Rattle.c_sound.specs.Program.{HaveSizes}

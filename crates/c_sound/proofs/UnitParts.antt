@@ -18,17 +18,17 @@ use Rattle.c_tree.specs.TUnit as t
 use Rattle.c_tree.specs.TUnit.{Item, ParDecl, Func, TExt, TypedUnit, Enumerator, Spec, Mems, funcs_of}
 use Rattle.c_tree.specs.Bodies.{Auto, autos, autos_local, autos_stmts}
 use Rattle.c_tree.specs.Starts.{at, starts_func, starts_local, starts_stmts}
-use Rattle.c_tree.specs.Mentions as m
-use Rattle.c_tree.specs.Mentions.{Mention, in_expr, in_option, in_local, in_stmts, in_item, in_ext, in_exts, in_spec, in_mems, in_enumerator, in_declr, in_begin, in_pars}
-use Rattle.c_tree.specs.Numbers.{text_numbers, own_numbers, IsCounted, AllCounted}
-use Rattle.c_tree.specs.RuleScope.{Env, Alias, Constant, Thing, in_scope, past_option, close, started}
-use Rattle.c_tree.specs.RuleTypes.{is_function}
-use Rattle.c_tree.specs.RuleDecls.{past_declr}
-use Rattle.c_tree.specs.RuleNames.{types_of}
-use Rattle.c_tree.specs.RuleStmts.{missing, is_static}
-use Rattle.c_tree.specs.RuleTags.{IsValued, AreEnumerators, AreMembers, AreTypes, IsDef, AreMems, IsMem, AreTypesOrInt, in_file, unplaced, as_member}
-use Rattle.c_tree.specs.RuleUnit as r
-use Rattle.c_tree.specs.RuleUnit.{own_number, next_static, IsItemBy, AreItems, AreAliases, AreParameters, AreParDecls, list_of, in_body, at_body, parameters, IsHead, IsBody, IsExt, AreExts, at_first, IsTyped}
+use Rattle.c_run.specs.Mentions as m
+use Rattle.c_run.specs.Mentions.{Mention, in_expr, in_option, in_local, in_stmts, in_item, in_ext, in_exts, in_spec, in_mems, in_enumerator, in_declr, in_begin, in_pars}
+use Rattle.c_run.specs.Numbers.{text_numbers, own_numbers, IsCounted, AllCounted}
+use Rattle.c_rule.specs.RuleScope.{Env, Alias, Constant, Thing, in_scope, past_option, close, started}
+use Rattle.c_rule.specs.RuleTypes.{is_function}
+use Rattle.c_rule.specs.RuleDecls.{past_declr}
+use Rattle.c_rule.specs.RuleNames.{types_of}
+use Rattle.c_rule.specs.RuleStmts.{missing, is_static}
+use Rattle.c_rule.specs.RuleTags.{IsValued, AreEnumerators, AreMembers, AreTypes, IsDef, AreMems, IsMem, AreTypesOrInt, in_file, unplaced, as_member}
+use Rattle.c_rule.specs.RuleUnit as r
+use Rattle.c_rule.specs.RuleUnit.{own_number, next_static, IsItemBy, AreItems, AreAliases, AreParameters, AreParDecls, list_of, in_body, at_body, parameters, IsHead, IsBody, IsExt, AreExts, at_first, IsTyped}
 use Rattle.c_sound.specs.Laws.{TypedIsNumbered}
 use Rattle.c_sound.proofs.Counts.{Counts, counts_counted, counts_length}
 use Rattle.c_sound.proofs.TextOrder.{texts_both, own_both, constant_texts}

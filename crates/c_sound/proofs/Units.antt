@@ -8,12 +8,12 @@ use Rattle.c_tree.specs.TreeUnit as uu
 use Rattle.c_tree.specs.TStmt.{Declr, locals}
 use Rattle.c_tree.specs.TUnit as t
 use Rattle.c_tree.specs.TUnit.{ParDecl, Func, TExt, funcs_of}
-use Rattle.c_tree.specs.Mentions.{Mention, in_declr, in_local, in_stmts, in_spec, in_pars, in_item, in_ext, in_exts}
-use Rattle.c_tree.specs.RuleNames.{types_of, storage_of, body_in_ext}
-use Rattle.c_tree.specs.RuleScope.{Env, Function, function_ref, started}
-use Rattle.c_tree.specs.RuleTypes.{is_function, may_return, functions_return}
-use Rattle.c_tree.specs.RuleStmts.{is_static}
-use Rattle.c_tree.specs.RuleUnit.{IsBody, IsExt, AreExts, list_of, declared_in, in_body, at_body, parameters, at_first}
+use Rattle.c_run.specs.Mentions.{Mention, in_declr, in_local, in_stmts, in_spec, in_pars, in_item, in_ext, in_exts}
+use Rattle.c_rule.specs.RuleNames.{types_of, storage_of, body_in_ext}
+use Rattle.c_rule.specs.RuleScope.{Env, Function, function_ref, started}
+use Rattle.c_rule.specs.RuleTypes.{is_function, may_return, functions_return}
+use Rattle.c_rule.specs.RuleStmts.{is_static}
+use Rattle.c_rule.specs.RuleUnit.{IsBody, IsExt, AreExts, list_of, declared_in, in_body, at_body, parameters, at_first}
 use Rattle.c_sound.specs.Unit as su
 use Rattle.c_sound.specs.Unit.{Declares, IsMeant, AnyText, SuitFuncs, SuitMentions}
 use Rattle.c_sound.specs.Suits.{SuitsFunc}

@@ -2,12 +2,11 @@
 use Rattle.std.proofs.Common.{◌≡◌, ℕ, zero, suc, ◌+◌, ◌<◌, List, [], ◌∷◌, ◌++◌, map, Bool, true, false, not, ◌&&◌, nat_eq, slice_get, Option, Some, ◌⊎◌, inl, inr, refl, sym, ap, ◌∙◌, subst, true≢false, arith}
 use Rattle.std.proofs.lemmas.Bool.{eqb-true}
 use Rattle.c_type.specs.Names.{Name, same_name, pick, at_or}
-use Rattle.c_tree.specs.TUnit.{Func, TypedUnit, funcs_of}
+use Rattle.c_tree.specs.TUnit.{Func, TypedUnit, funcs_of, no_unit}
 use Rattle.c_tree.specs.Bodies.{BodyAt, bodies_from, body_in, body_named}
-use Rattle.c_tree.specs.Context.{no_unit}
-use Rattle.c_tree.specs.JoinSaid.{Event, Fact, fact, facts_in, facts_from, is_lacking, events}
-use Rattle.c_tree.specs.Lasting.{Said, said_from}
-use Rattle.c_tree.specs.Mentions.{in_exts}
+use Rattle.c_join.specs.JoinSaid.{Event, Fact, fact, facts_in, facts_from, is_lacking, events}
+use Rattle.c_run.specs.Lasting.{Said, said_from}
+use Rattle.c_run.specs.Mentions.{in_exts}
 use Rattle.c_sound.specs.Laws.{AllSuit}
 use Rattle.c_sound.specs.Unit.{SuitsUnit}
 use Rattle.c_sound.proofs.Listed.{IsIn, in_first, in_second, in_either, in_map, of_map}

@@ -5,10 +5,10 @@ use Rattle.c_type.specs.declared.Kind.TheVariants as kinds
 use Rattle.c_type.specs.Kinds.{convert}
 use Rattle.c_type.specs.Types.{CType, num, void, ptr, arr, struct, union, enum, fun, kind_code}
 use Rattle.c_tree.specs.Bodies.{BodyAt}
-use Rattle.c_tree.specs.Values.{Target, Body, Putchar, Getchar, Exit, Value, Num, Null, To, Fn}
-use Rattle.c_tree.specs.State.{Slot, Thing, Act, State}
-use Rattle.c_tree.specs.Context.{Linked}
-use Rattle.c_tree.specs.Calls.{int_type}
+use Rattle.c_run.specs.Values.{Target, Body, Putchar, Getchar, Exit, Value, Num, Null, To, Fn}
+use Rattle.c_run.specs.State.{Slot, Thing, Act, State}
+use Rattle.c_run.specs.Context.{Linked}
+use Rattle.c_run.specs.Calls.{int_type}
 
 -- Two types are built alike, whatever their tags and dimensions are. Then they have the same values.
 abbrev pub like : CType → CType → Bool

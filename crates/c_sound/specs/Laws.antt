@@ -3,13 +3,13 @@ use Rattle.std.specs.Prelude.{◌≡◌, ℕ, List, [], ◌∷◌, true, false}
 use Rattle.std.specs.List.{AllZip}
 use Rattle.c_tree.specs.TreeUnit as u
 use Rattle.c_tree.specs.TUnit.{TypedUnit, Program}
-use Rattle.c_tree.specs.Values.{Stop}
-use Rattle.c_tree.specs.State.{State, Halt, Changes, no_changes}
-use Rattle.c_tree.specs.Context.{linked}
-use Rattle.c_tree.specs.Run.{run}
-use Rattle.c_tree.specs.Numbers.{IsNumbered}
-use Rattle.c_tree.specs.RuleUnit.{IsTyped}
-use Rattle.c_tree.specs.JoinChecks.{IsJoined}
+use Rattle.c_run.specs.Values.{Stop}
+use Rattle.c_run.specs.State.{State, Halt, Changes, no_changes}
+use Rattle.c_run.specs.Context.{linked}
+use Rattle.c_run.specs.Run.{run}
+use Rattle.c_run.specs.Numbers.{IsNumbered}
+use Rattle.c_rule.specs.RuleUnit.{IsTyped}
+use Rattle.c_join.specs.JoinChecks.{IsJoined}
 use Rattle.c_sound.specs.HasType.{AreBytes}
 use Rattle.c_sound.specs.Program.{SuitsProgram, IsNamed}
 use Rattle.c_sound.specs.Unit.{SuitsUnit}

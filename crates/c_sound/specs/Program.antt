@@ -4,12 +4,13 @@ use Rattle.c_type.specs.Names.{at_or}
 use Rattle.c_type.specs.Types.{CType, fun, Tag, is_integer}
 use Rattle.c_tree.specs.TExpr as e
 use Rattle.c_tree.specs.TExpr.{Ref}
-use Rattle.c_tree.specs.Lasting.{Lasting}
+use Rattle.c_run.specs.Lasting.{Lasting}
 use Rattle.c_tree.specs.Bodies.{BodyAt, body_named}
-use Rattle.c_tree.specs.Values.{Target, Object, Stop, Stopped, NoFuel, Stack, Ended, Fault, Leaves, Ill}
-use Rattle.c_tree.specs.Context.{Linked, Context, context_of, context, no_unit, object_of, text_object, own, outer}
-use Rattle.c_tree.specs.Run.{main_name}
-use Rattle.c_tree.specs.RuleTypes.{is_function}
+use Rattle.c_run.specs.Values.{Target, Object, Stop, Stopped, NoFuel, Stack, Ended, Fault, Leaves, Ill}
+use Rattle.c_run.specs.Context.{Linked, Context, context_of, context, object_of, text_object, own, outer}
+use Rattle.c_tree.specs.TUnit.{no_unit}
+use Rattle.c_tree.specs.Library.{main_name}
+use Rattle.c_rule.specs.RuleTypes.{is_function}
 use Rattle.c_sound.specs.HasType.{Gives}
 use Rattle.c_sound.specs.Suits.{SuitsFunc, SuitsBegin}
 

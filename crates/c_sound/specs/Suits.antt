@@ -13,10 +13,10 @@ use Rattle.c_tree.specs.declared.TBinary.TheVariants.{Add, Sub, Lt, Gt, Le, Ge, 
 use Rattle.c_tree.specs.TStmt as st
 use Rattle.c_tree.specs.TStmt.{Init, Inits, Local, TStmt, TStmts, TItems, locals}
 use Rattle.c_tree.specs.TUnit.{Func}
-use Rattle.c_tree.specs.RuleTypes.{is_void, is_function}
-use Rattle.c_tree.specs.RuleValues.{is_scalar, is_object_pointer, is_place}
-use Rattle.c_tree.specs.RuleExprs.{is_number, is_structure}
-use Rattle.c_tree.specs.RuleDecls.{part_types}
+use Rattle.c_rule.specs.RuleTypes.{is_void, is_function}
+use Rattle.c_rule.specs.RuleValues.{is_scalar, is_object_pointer, is_place}
+use Rattle.c_rule.specs.RuleExprs.{is_number, is_structure}
+use Rattle.c_rule.specs.RuleDecls.{part_types}
 
 -- an integer type of 32 bits, in which operators work
 abbrev pub is_wide : CType → Bool

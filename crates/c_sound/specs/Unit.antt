@@ -5,12 +5,12 @@ use Rattle.c_type.specs.Types.{CType, Tag, is_integer}
 use Rattle.c_tree.specs.TExpr as e
 use Rattle.c_tree.specs.TExpr.{Ref}
 use Rattle.c_tree.specs.TUnit.{Func, TypedUnit, funcs_of}
-use Rattle.c_tree.specs.Mentions.{Mention, Text, Use, Extern, Own, Outside, in_exts}
+use Rattle.c_run.specs.Mentions.{Mention, Text, Use, Extern, Own, Outside, in_exts}
 use Rattle.c_type.specs.Names.{Name, same_name}
-use Rattle.c_tree.specs.Numbers.{own_numbers}
-use Rattle.c_tree.specs.JoinSaid as j
-use Rattle.c_tree.specs.JoinSaid.{Whose, External, Hidden, Outer, Saying, Declared, Common, Begun, Defined, Used, Named, Called, Event, events}
-use Rattle.c_tree.specs.RuleTypes.{is_function}
+use Rattle.c_run.specs.Numbers.{own_numbers}
+use Rattle.c_join.specs.JoinSaid as j
+use Rattle.c_join.specs.JoinSaid.{Whose, External, Hidden, Outer, Saying, Declared, Common, Begun, Defined, Used, Named, Called, Event, events}
+use Rattle.c_rule.specs.RuleTypes.{is_function}
 use Rattle.c_sound.specs.Suits.{SuitsFunc, SuitsBegin}
 use Rattle.c_sound.specs.Program.{HaveSizes}
 

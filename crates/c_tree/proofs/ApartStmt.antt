@@ -11,17 +11,17 @@ use Rattle.c_tree.specs.TExpr as e
 use Rattle.c_tree.specs.TExpr.{TExpr, TArgs}
 use Rattle.c_tree.specs.TStmt as st
 use Rattle.c_tree.specs.TStmt.{TStmt, TStmts, TItems, Declr, Local, LocalDecl}
-use Rattle.c_tree.specs.RuleScope.{Judged, Is, Fails, Env, Meaning, Thing, known, is_sized, past, past_option, started}
-use Rattle.c_tree.specs.RuleTypes.{is_function, cast_type, sized_type, declared_type, spec_or_int}
-use Rattle.c_tree.specs.RuleValues.{used, scalar, integer, value_for}
-use Rattle.c_tree.specs.RuleExprs as r
-use Rattle.c_tree.specs.RuleTree.{IsExpr, IsCalled, AreArgs, Gives}
-use Rattle.c_tree.specs.RuleDecls.{dimension_of, constant_of, is_name, is_some, past_declr, IsDerived, IsDeclr, fills_chars, first_value, is_aggregate, part_types, IsSingle, IsInit, AreInits, Begins, IsAutoInit}
-use Rattle.c_tree.specs.RuleStmts.{Declares, enter, missing, declr_line, is_free, innermost, IsLocalBy, AreLocals, AreDecls, Place, in_loop, in_switch, Maybe, returned, labels_differ, IsStmt, AreStmts, AreItems}
-use Rattle.c_tree.specs.RuleFails.{OneFails, TwoFail, CalledFails, ExprFails, ArgsFail, Refuses, MaybeFails, DerivedFails, DeclrFails, InitFails, InitsFail, AutoInitFails, HasInit, IsTaken, ObjectFails, LocalFails, LocalsFail, DeclsFail, StmtFails, StmtsFail, ItemsFail}
-use Rattle.c_tree.proofs.OneExpr.{expr_one, is_one}
-use Rattle.c_tree.proofs.OneDecl.{type_one, declr_one, init_one}
-use Rattle.c_tree.proofs.OneStmt.{declares_one, local_one, locals_one, decls_one, stmt_one, items_one}
+use Rattle.c_rule.specs.RuleScope.{Judged, Is, Fails, Env, Meaning, Thing, known, is_sized, past, past_option, started}
+use Rattle.c_rule.specs.RuleTypes.{is_function, cast_type, sized_type, declared_type, spec_or_int}
+use Rattle.c_rule.specs.RuleValues.{used, scalar, integer, value_for}
+use Rattle.c_rule.specs.RuleExprs as r
+use Rattle.c_rule.specs.RuleTree.{IsExpr, IsCalled, AreArgs, Gives}
+use Rattle.c_rule.specs.RuleDecls.{dimension_of, constant_of, is_name, is_some, past_declr, IsDerived, IsDeclr, fills_chars, first_value, is_aggregate, part_types, IsSingle, IsInit, AreInits, Begins, IsAutoInit}
+use Rattle.c_rule.specs.RuleStmts.{Declares, enter, missing, declr_line, is_free, innermost, IsLocalBy, AreLocals, AreDecls, Place, in_loop, in_switch, Maybe, returned, labels_differ, IsStmt, AreStmts, AreItems}
+use Rattle.c_rule.specs.RuleFails.{OneFails, TwoFail, CalledFails, ExprFails, ArgsFail, Refuses, MaybeFails, DerivedFails, DeclrFails, InitFails, InitsFail, AutoInitFails, HasInit, IsTaken, ObjectFails, LocalFails, LocalsFail, DeclsFail, StmtFails, StmtsFail, ItemsFail}
+use Rattle.c_rule.proofs.OneExpr.{expr_one, is_one}
+use Rattle.c_rule.proofs.OneDecl.{type_one, declr_one, init_one}
+use Rattle.c_rule.proofs.OneStmt.{declares_one, local_one, locals_one, decls_one, stmt_one, items_one}
 
 -- a rule does not both give and fail
 pub judged_apart : {A : Type 0} (j : Judged A) (a : A) (n : ℕ) → j ≡ Is a → j ≡ Fails n → ⊥

@@ -11,20 +11,20 @@ use Rattle.c_tree.specs.TreeUnit as uu
 use Rattle.c_tree.specs.TExpr as e
 use Rattle.c_tree.specs.TStmt.{Declr}
 use Rattle.c_tree.specs.TUnit.{Spec, Mems, Enumerator, Item, ParDecl, Func, TExt}
-use Rattle.c_tree.specs.Laws.{FailsApart}
-use Rattle.c_tree.specs.RuleScope.{Env, Meaning, Alias, Constant, Thing, Function, function_ref, in_scope, known, is_sized, past_option}
-use Rattle.c_tree.specs.RuleTypes.{is_function, spec_type}
-use Rattle.c_tree.specs.RuleDecls.{constant_of, past_declr, IsDeclr}
-use Rattle.c_tree.specs.RuleStmts.{is_free, is_static, missing, AreDecls}
-use Rattle.c_tree.specs.RuleTags.{IsValued, AreEnumerators, AreMembers, in_file, names_differ, AreTypes, IsDef, AreMems, IsMem, AreTypesOrInt}
-use Rattle.c_tree.specs.RuleNames.{storage_of, types_of, tags_in, defined_in, tag_names}
-use Rattle.c_tree.specs.RuleUnit.{combined, DeclaresInFile, own_number, IsItemBy, AreItems, AreAliases, list_of, is_listed, is_structure, AreParameters, AreParDecls, in_body, at_body, parameters, names_of, IsHead, IsBody, IsExt, AreExts, at_first}
-use Rattle.c_tree.specs.RuleFails.{Refuses, MaybeFails, DeclrFails, InitFails, DeclsFail, StmtsFail}
-use Rattle.c_tree.specs.RuleFailsUnit.{EnumeratorsFail, MembersFail, TypesFail, DefFails, MemsFail, MemFails, IsUnlike, ObjectFails, ItemFails, ItemsFail, AliasesFail, ParametersFail, ParDeclsFail, HeadFails, BodyFails, ExtFails, ExtsFail}
-use Rattle.c_tree.proofs.OneDecl.{declr_one}
-use Rattle.c_tree.proofs.OneStmt.{decls_one}
-use Rattle.c_tree.proofs.OneUnit.{enumerator_one, types_one, mems_one, mem_one, types_or_int_one, in_file_one, item_one, parameters_one, par_decls_one, head_one, ext_one}
-use Rattle.c_tree.proofs.ApartStmt.{judged_apart, bools_apart, gives_apart, declr_apart, begins_apart, has_init_apart, decls_apart, stmts_apart}
+use Rattle.c_rule.specs.Laws.{FailsApart}
+use Rattle.c_rule.specs.RuleScope.{Env, Meaning, Alias, Constant, Thing, Function, function_ref, in_scope, known, is_sized, past_option}
+use Rattle.c_rule.specs.RuleTypes.{is_function, spec_type}
+use Rattle.c_rule.specs.RuleDecls.{constant_of, past_declr, IsDeclr}
+use Rattle.c_rule.specs.RuleStmts.{is_free, is_static, missing, AreDecls}
+use Rattle.c_rule.specs.RuleTags.{IsValued, AreEnumerators, AreMembers, in_file, names_differ, AreTypes, IsDef, AreMems, IsMem, AreTypesOrInt}
+use Rattle.c_rule.specs.RuleNames.{storage_of, types_of, tags_in, defined_in, tag_names}
+use Rattle.c_rule.specs.RuleUnit.{combined, DeclaresInFile, own_number, IsItemBy, AreItems, AreAliases, list_of, is_listed, is_structure, AreParameters, AreParDecls, in_body, at_body, parameters, names_of, IsHead, IsBody, IsExt, AreExts, at_first}
+use Rattle.c_rule.specs.RuleFails.{Refuses, MaybeFails, DeclrFails, InitFails, DeclsFail, StmtsFail}
+use Rattle.c_rule.specs.RuleFailsUnit.{EnumeratorsFail, MembersFail, TypesFail, DefFails, MemsFail, MemFails, IsUnlike, ObjectFails, ItemFails, ItemsFail, AliasesFail, ParametersFail, ParDeclsFail, HeadFails, BodyFails, ExtFails, ExtsFail}
+use Rattle.c_rule.proofs.OneDecl.{declr_one}
+use Rattle.c_rule.proofs.OneStmt.{decls_one}
+use Rattle.c_rule.proofs.OneUnit.{enumerator_one, types_one, mems_one, mem_one, types_or_int_one, in_file_one, item_one, parameters_one, par_decls_one, head_one, ext_one}
+use Rattle.c_rule.proofs.ApartStmt.{judged_apart, bools_apart, gives_apart, declr_apart, begins_apart, has_init_apart, decls_apart, stmts_apart}
 
 valued_apart : (c : Env) (b : Option ℕ) (a : Option _) (n : ℕ) (y : Enumerator) → MaybeFails (Refuses (constant_of c) c) a n → IsValued c b a y → ⊥
 valued_apart c b None n y h k = h

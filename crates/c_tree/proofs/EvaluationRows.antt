@@ -9,15 +9,15 @@ use Rattle.c_tree.specs.Arith.{add32, sub32, mul32, flip32, is_negative, magnitu
 use Rattle.c_tree.specs.TExpr.{Local, Param, Static, Ext, Func, Outer, Const, Neg, Not, Div, Rem, Add, Sub, Shl, Shr, Lt, Le, Eq, Ne, PreInc, PostInc, name, int, text, unary, deref, address, step, size_of, cast, convert, decay, designate, binary, both, either, comma, choice, assign, update, index, call, member, arrow, no_args, more_args}
 use Rattle.c_tree.specs.TStmt.{single, bytes, group, no_inits, more_inits, expr, if_only, while_, do_, for_, switch, break_, continue_, return_, block, no_stmts, more_stmts, no_items, case_, default_, more_items, auto, auto_init, static_, extern_}
 use Rattle.c_tree.specs.TUnit.{Program, plain, enum_body, tag_only, object, func, Own, Outside, Elsewhere}
-use Rattle.c_tree.specs.Mentions as m
-use Rattle.c_tree.specs.Mentions.{in_exts, Use, Extern}
-use Rattle.c_tree.specs.Values.{Num, Null, To, Stopped, NoFuel, Stack, Ended, Fault, Leaves, Ill}
-use Rattle.c_tree.specs.Values as v
-use Rattle.c_tree.specs.State.{Changes, no_changes}
-use Rattle.c_tree.specs.Context.{linked}
-use Rattle.c_tree.specs.Place.{place}
-use Rattle.c_tree.specs.Run.{run}
-use Rattle.c_tree.proofs.Seen.{int_t, char_t, short_t, uint_t, declr, sized, decl, body, unit_at, report, held, shown, placed}
+use Rattle.c_run.specs.Mentions as m
+use Rattle.c_run.specs.Mentions.{in_exts, Use, Extern}
+use Rattle.c_run.specs.Values.{Num, Null, To, Stopped, NoFuel, Stack, Ended, Fault, Leaves, Ill}
+use Rattle.c_run.specs.Values as v
+use Rattle.c_run.specs.State.{Changes, no_changes}
+use Rattle.c_run.specs.Context.{linked}
+use Rattle.c_run.specs.Place.{place}
+use Rattle.c_run.specs.Run.{run}
+use Rattle.c_rows.proofs.Seen.{int_t, char_t, short_t, uint_t, declr, sized, decl, body, unit_at, report, held, shown, placed}
 
 abbrev n-putchar : Name
 n-putchar = 112 ∷ (117 ∷ (116 ∷ (99 ∷ (104 ∷ (97 ∷ (114 ∷ []))))))

@@ -3,16 +3,16 @@ use Rattle.std.proofs.Common.{[], ◌∷◌, true, false, refl, lit≤, lit<, co
 use Rattle.c_type.specs.Names.{Name}
 use Rattle.c_type.specs.declared.Kind.TheVariants as kinds
 use Rattle.c_type.specs.declared.TagKind.TheVariants.{Struct, Enum}
-use Rattle.c_type.specs.Tokens as k
+use Rattle.c_lex.specs.Tokens as k
 use Rattle.c_tree.specs.declared.expr.AssignOp.TheVariants as a
 use Rattle.c_tree.specs.declared.expr.BinaryOp.TheVariants as b
 use Rattle.c_tree.specs.declared.expr.UnaryOp.TheVariants as u
 use Rattle.c_tree.specs.declared.expr.StepOp.TheVariants as s
 use Rattle.c_tree.specs.TreeExpr as t
-use Rattle.c_tree.specs.Words.{Unsigned, Char, Long, Int, Void, tok, mark, word}
-use Rattle.c_tree.specs.WrittenType.{word_part, tag_part, name_part}
-use Rattle.c_tree.specs.WrittenExpr as w
-use Rattle.c_tree.specs.Reads.{Spells}
+use Rattle.c_grammar.specs.Words.{Unsigned, Char, Long, Int, Void, tok, mark, word}
+use Rattle.c_grammar.specs.WrittenType.{word_part, tag_part, name_part}
+use Rattle.c_grammar.specs.WrittenExpr as w
+use Rattle.c_grammar.specs.Reads.{Spells}
 
 abbrev n_a : Name
 n_a = codes "a"

@@ -2,14 +2,14 @@
 use Rattle.std.proofs.Common.{ℕ, ◌<◌, ◌≤◌, List, [], ◌∷◌, refl, arith}
 use Rattle.c_type.specs.Types.{target}
 use Rattle.c_tree.specs.TExpr.{TExpr, TArgs, name, int, text, unary, deref, address, step, size_of, size_of_type, cast, convert, decay, designate, binary, both, either, comma, choice, assign, update, index, call, member, arrow, no_args, more_args, type_of, Add}
-use Rattle.c_tree.specs.Values.{Value, Num, converted, is_true, truth}
-use Rattle.c_tree.specs.State.{State, Out, Gave, bind, choose}
-use Rattle.c_tree.specs.Context.{Context, text_object, offset, shared}
-use Rattle.c_tree.specs.Pointers.{load, store, copy, as_pointer, beyond}
+use Rattle.c_run.specs.Values.{Value, Num, converted, is_true, truth}
+use Rattle.c_run.specs.State.{State, Out, Gave, bind, choose}
+use Rattle.c_run.specs.Context.{Context, text_object, offset, shared}
+use Rattle.c_run.specs.Pointers.{load, store, copy, as_pointer, beyond}
 use Rattle.c_tree.specs.Constant.{is_zero}
-use Rattle.c_tree.specs.Exprs.{Call, Arg, value, place, args, value_of, place_of, as_place, unary_op, operate, updated, stepped, is_function, is_member, is_structure}
-use Rattle.c_tree.proofs.Quiet.{quiet_bind, quiet_value_of, quiet_place_of, quiet_as_place, quiet_unary_op, quiet_load, quiet_store, quiet_copy, quiet_as_pointer, quiet_beyond, quiet_operate, quiet_updated, quiet_stepped}
-use Rattle.c_tree.proofs.Later.{Goes, goes_gave, goes_quiet, goes_bind, goes_last, goes_choose}
+use Rattle.c_run.specs.Exprs.{Call, Arg, value, place, args, value_of, place_of, as_place, unary_op, operate, updated, stepped, is_function, is_member, is_structure}
+use Rattle.c_run.proofs.Quiet.{quiet_bind, quiet_value_of, quiet_place_of, quiet_as_place, quiet_unary_op, quiet_load, quiet_store, quiet_copy, quiet_as_pointer, quiet_beyond, quiet_operate, quiet_updated, quiet_stepped}
+use Rattle.c_run.proofs.Later.{Goes, goes_gave, goes_quiet, goes_bind, goes_last, goes_choose}
 
 -- two calls that go the same way from turn t on
 abbrev pub CallsGo : (n m t : ℕ) → Call → Call → Type 0

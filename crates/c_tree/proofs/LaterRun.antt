@@ -4,24 +4,24 @@ use Rattle.std.specs.Prelude.{nat_le, slice_get}
 use Rattle.c_type.specs.declared.Kind.TheVariants as kinds
 use Rattle.c_type.specs.Kinds as k
 use Rattle.c_type.specs.Types.{CType, num, Member}
-use Rattle.c_tree.specs.TUnit.{Func, Var}
+use Rattle.c_tree.specs.TUnit.{Func, Var, Program}
 use Rattle.c_tree.specs.TStmt.{locals, Init, Inits, single, bytes, group, no_inits, more_inits}
-use Rattle.c_tree.specs.TUnit.{Program}
-use Rattle.c_tree.specs.Lasting.{Lasting}
+use Rattle.c_run.specs.Lasting.{Lasting}
 use Rattle.c_tree.specs.Bodies.{BodyAt, body_named}
-use Rattle.c_tree.specs.Values.{Object, Static, Target, Body, Putchar, Getchar, Exit, Value, Num, Null, To, Fn, Stop, Stopped, NoFuel, Stack, Ended, Fault, Leaves, Ill}
-use Rattle.c_tree.specs.State.{State, Out, Gave, Halt, bind, choose, Changes, Acts, acts_of}
-use Rattle.c_tree.specs.Context.{Context, Linked, linked, context, context_of}
-use Rattle.c_tree.specs.Pointers.{leaves, store}
-use Rattle.c_tree.specs.Exprs.{Arg, value}
-use Rattle.c_tree.specs.Stmts.{Given, Rest, inits, stmts}
-use Rattle.c_tree.specs.Calls.{body, enter, entered, all_suit, left, result, call_body, call_target, call_with, library, put_byte, get_byte, first_number, fit, next_base, frame_of, stack_base, int_var, rest}
-use Rattle.c_tree.specs.Laws.{HasFuel, Halts, StopsAt, EndsAlike}
-use Rattle.c_tree.specs.Run.{no_call, put_bytes, begin_as, begin_parts, begin_static, begin_statics, blank, first_state, call_main, ended, run, main_name, parts, dimension}
-use Rattle.c_tree.proofs.Quiet.{Quiet, quiet_store}
-use Rattle.c_tree.proofs.Later.{Goes, goes_from, goes_gave, goes_quiet, goes_bind, goes_last, goes_choose, AreQuiet, changes_quiet, goes_begin}
-use Rattle.c_tree.proofs.LaterExprs.{CallsGo, value_goes}
-use Rattle.c_tree.proofs.LaterStmts.{Good, given, inits_goes, stmts_goes, loop_goes}
+use Rattle.c_run.specs.Values.{Object, Static, Target, Body, Putchar, Getchar, Exit, Value, Num, Null, To, Fn, Stop, Stopped, NoFuel, Stack, Ended, Fault, Leaves, Ill}
+use Rattle.c_run.specs.State.{State, Out, Gave, Halt, bind, choose, Changes, Acts, acts_of}
+use Rattle.c_run.specs.Context.{Context, Linked, linked, context, context_of}
+use Rattle.c_run.specs.Pointers.{leaves, store}
+use Rattle.c_run.specs.Exprs.{Arg, value}
+use Rattle.c_run.specs.Stmts.{Given, Rest, inits, stmts}
+use Rattle.c_run.specs.Calls.{body, enter, entered, all_suit, left, result, call_body, call_target, call_with, library, put_byte, get_byte, first_number, fit, next_base, frame_of, stack_base, int_var, rest}
+use Rattle.c_run.specs.Laws.{HasFuel, Halts, StopsAt, EndsAlike}
+use Rattle.c_run.specs.Run.{no_call, put_bytes, begin_as, begin_parts, begin_static, begin_statics, blank, first_state, call_main, ended, run, parts, dimension}
+use Rattle.c_tree.specs.Library.{main_name}
+use Rattle.c_run.proofs.Quiet.{Quiet, quiet_store}
+use Rattle.c_run.proofs.Later.{Goes, goes_from, goes_gave, goes_quiet, goes_bind, goes_last, goes_choose, AreQuiet, changes_quiet, goes_begin}
+use Rattle.c_run.proofs.LaterExprs.{CallsGo, value_goes}
+use Rattle.c_run.proofs.LaterStmts.{Good, given, inits_goes, stmts_goes, loop_goes}
 
 body_goes : (n m t : ℕ) (act : Acts) → AreQuiet act → (w : Linked) (r r' : Rest) (c : Context) (f : Func) (s : State) → n ≤ m → Good n m t r r' → t ≤ suc s.turns → s.turns < n → Goes n m s (body (given n act w) r c f s) (body (given m act w) r' c f s)
 body_goes n m t act q w r r' c f s nm g lo hi =

@@ -4,15 +4,15 @@ use Rattle.std.specs.Prelude.{nat_eq}
 use Rattle.c_type.specs.Types.{CType}
 use Rattle.c_tree.specs.TExpr.{TExpr}
 use Rattle.c_tree.specs.TStmt.{TStmt, expr, empty, if_only, if_else, while_, do_, for_, switch, break_, continue_, return_, block, TStmts, no_stmts, more_stmts, TItems, no_items, case_, default_, more_items, Local as Item, auto, auto_init, static_, extern_, function, locals}
-use Rattle.c_tree.specs.Values.{Local, Value, Num, To, is_true}
-use Rattle.c_tree.specs.State.{State, Out, Gave, bind, choose, Flow, Next, Broke, Continued, Returned, current, Acts}
-use Rattle.c_tree.specs.Context.{Context, Linked}
-use Rattle.c_tree.specs.Pointers.{store}
-use Rattle.c_tree.specs.Exprs.{Call, value}
-use Rattle.c_tree.specs.Stmts.{Given, Rest, turn, after, around, out_of, next, perform, test, give_back, while_round, do_round, for_round, zero_local, zero_block, begin_auto, init, inits, has_case, has_default, select, stmt, loop, stmts, items, from_case, from_default}
-use Rattle.c_tree.proofs.Quiet.{Quiet, quiet_store}
-use Rattle.c_tree.proofs.Later.{Goes, goes_from, goes_gave, goes_bind, goes_last, goes_choose, AreQuiet, goes_begin}
-use Rattle.c_tree.proofs.LaterExprs.{CallsGo, value_goes}
+use Rattle.c_run.specs.Values.{Local, Value, Num, To, is_true}
+use Rattle.c_run.specs.State.{State, Out, Gave, bind, choose, Flow, Next, Broke, Continued, Returned, current, Acts}
+use Rattle.c_run.specs.Context.{Context, Linked}
+use Rattle.c_run.specs.Pointers.{store}
+use Rattle.c_run.specs.Exprs.{Call, value}
+use Rattle.c_run.specs.Stmts.{Given, Rest, turn, after, around, out_of, next, perform, test, give_back, while_round, do_round, for_round, zero_local, zero_block, begin_auto, init, inits, has_case, has_default, select, stmt, loop, stmts, items, from_case, from_default}
+use Rattle.c_run.proofs.Quiet.{Quiet, quiet_store}
+use Rattle.c_run.proofs.Later.{Goes, goes_from, goes_gave, goes_bind, goes_last, goes_choose, AreQuiet, goes_begin}
+use Rattle.c_run.proofs.LaterExprs.{CallsGo, value_goes}
 
 -- what has less fuel goes the same way from turn t on
 pub record Good (n m t : ℕ) (r r' : Rest) : Type 0 where

@@ -10,12 +10,12 @@ use Rattle.c_tree.specs.Arith.{add32, sub32, mul32, flip32, is_negative, magnitu
 use Rattle.c_tree.specs.TExpr.{Local, Ext, Func, Outer, Neg, Not, Div, Rem, Add, Sub, Lt, Le, Eq, PostInc, name, int, unary, deref, address, step, convert, decay, designate, binary, assign, index, call, member, arrow, no_args, more_args}
 use Rattle.c_tree.specs.TStmt.{return_, no_stmts, more_stmts, auto, auto_init}
 use Rattle.c_tree.specs.TUnit.{Program, plain, object, Outside}
-use Rattle.c_tree.specs.Values.{Num, Null, To, Stopped, NoFuel, Stack, Ended, Fault, Leaves, Ill}
-use Rattle.c_tree.specs.Values as v
-use Rattle.c_tree.specs.State.{State, no_changes, Gave, Halt}
-use Rattle.c_tree.specs.Pointers.{copy_cells}
-use Rattle.c_tree.specs.Run.{run}
-use Rattle.c_tree.proofs.Seen.{int_t, char_t, uint_t, declr, decl, body, slot_at, report}
+use Rattle.c_run.specs.Values.{Num, Null, To, Stopped, NoFuel, Stack, Ended, Fault, Leaves, Ill}
+use Rattle.c_run.specs.Values as v
+use Rattle.c_run.specs.State.{State, no_changes, Gave, Halt}
+use Rattle.c_run.specs.Pointers.{copy_cells}
+use Rattle.c_run.specs.Run.{run}
+use Rattle.c_rows.proofs.Seen.{int_t, char_t, uint_t, declr, decl, body, slot_at, report}
 
 abbrev n-s : Name
 n-s = 115 ∷ []

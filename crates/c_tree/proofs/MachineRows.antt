@@ -10,12 +10,12 @@ use Rattle.c_tree.specs.Arith.{add32, sub32, mul32, flip32, is_negative, magnitu
 use Rattle.c_tree.specs.TExpr.{Local, Param, Static, Ext, Func, Outer, Div, Add, Sub, Lt, Eq, PostInc, PostDec, name, int, address, step, convert, decay, binary, assign, index, call, member, arrow, no_args, more_args}
 use Rattle.c_tree.specs.TStmt.{single, group, no_inits, more_inits, expr, if_only, while_, for_, return_, block, no_stmts, more_stmts, auto}
 use Rattle.c_tree.specs.TUnit.{Program, plain, object, func, Own, Outside}
-use Rattle.c_tree.specs.Values.{Num, Null, To, Stopped, NoFuel, Stack, Ended, Fault, Leaves, Ill}
-use Rattle.c_tree.specs.Values as v
-use Rattle.c_tree.specs.State.{Changes, no_changes}
+use Rattle.c_run.specs.Values.{Num, Null, To, Stopped, NoFuel, Stack, Ended, Fault, Leaves, Ill}
+use Rattle.c_run.specs.Values as v
+use Rattle.c_run.specs.State.{Changes, no_changes}
 use Rattle.c_tree.specs.Starts.{starts, first_in}
-use Rattle.c_tree.specs.Run.{run}
-use Rattle.c_tree.proofs.Seen.{int_t, char_t, declr, decl, body, unit_at, report, held, shown, placed}
+use Rattle.c_run.specs.Run.{run}
+use Rattle.c_rows.proofs.Seen.{int_t, char_t, declr, decl, body, unit_at, report, held, shown, placed}
 
 abbrev n-main : Name
 n-main = 109 ∷ (97 ∷ (105 ∷ (110 ∷ [])))

@@ -7,10 +7,10 @@ use Rattle.c_tree.specs.TreeDecl as ud
 use Rattle.c_tree.specs.TExpr.{TExpr}
 use Rattle.c_tree.specs.TStmt as st
 use Rattle.c_tree.specs.TStmt.{Declr}
-use Rattle.c_tree.specs.RuleScope.{Env}
-use Rattle.c_tree.specs.RuleValues.{value_for}
-use Rattle.c_tree.specs.RuleDecls.{dimension_of, past_declr, IsDerived, IsDeclr, fills_chars, first_value, IsSingle, IsInit, AreInits, Begins, IsAutoInit, part_types}
-use Rattle.c_tree.proofs.OneExpr.{gives_one}
+use Rattle.c_rule.specs.RuleScope.{Env}
+use Rattle.c_rule.specs.RuleValues.{value_for}
+use Rattle.c_rule.specs.RuleDecls.{dimension_of, past_declr, IsDerived, IsDeclr, fills_chars, first_value, IsSingle, IsInit, AreInits, Begins, IsAutoInit, part_types}
+use Rattle.c_rule.proofs.OneExpr.{gives_one}
 
 some_or : {A : Type 0} → A → Option A → A
 some_or a None = a

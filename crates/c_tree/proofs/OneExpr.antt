@@ -3,11 +3,11 @@ use Rattle.std.proofs.Common.{◌≡◌, sym, ap, ◌∙◌}
 use Rattle.c_tree.specs.TreeExpr.{Expr, Exprs, comma, assign, choice, binary, unary, size_of, size_of_type, cast, index, call, member, arrow, post, name, int, chr, text, no_exprs, more_exprs}
 use Rattle.c_tree.specs.TExpr as e
 use Rattle.c_tree.specs.TExpr.{TExpr, TArgs, type_of}
-use Rattle.c_tree.specs.RuleScope.{Judged, Is, Fails, Env, past, meaning_of}
-use Rattle.c_tree.specs.RuleTypes.{cast_type, sized_type}
-use Rattle.c_tree.specs.RuleValues.{scalar}
-use Rattle.c_tree.specs.RuleExprs as r
-use Rattle.c_tree.specs.RuleTree.{IsExpr, IsCalled, AreArgs, Gives}
+use Rattle.c_rule.specs.RuleScope.{Judged, Is, Fails, Env, past, meaning_of}
+use Rattle.c_rule.specs.RuleTypes.{cast_type, sized_type}
+use Rattle.c_rule.specs.RuleValues.{scalar}
+use Rattle.c_rule.specs.RuleExprs as r
+use Rattle.c_rule.specs.RuleTree.{IsExpr, IsCalled, AreArgs, Gives}
 
 unwrapped : {A : Type 0} → A → Judged A → A
 unwrapped a (Is b) = b

@@ -11,14 +11,14 @@ use Rattle.c_tree.specs.TExpr as e
 use Rattle.c_tree.specs.TExpr.{TExpr}
 use Rattle.c_tree.specs.TStmt as st
 use Rattle.c_tree.specs.TStmt.{TStmt, TStmts, TItems, Declr, Local, LocalDecl}
-use Rattle.c_tree.specs.RuleScope.{Env, Meaning, Thing, past, past_option, started}
-use Rattle.c_tree.specs.RuleTypes.{is_function, spec_or_int}
-use Rattle.c_tree.specs.RuleValues.{used, integer, scalar}
-use Rattle.c_tree.specs.RuleDecls.{constant_of, past_declr, Begins, IsAutoInit}
-use Rattle.c_tree.specs.RuleTree.{Gives}
-use Rattle.c_tree.specs.RuleStmts.{Declares, enter, leave, past_init, is_static, missing, declr_line, IsFunctionHere, IsExternHere, IsStaticHere, IsAutoHere, IsLocalBy, AreLocals, AreDecls, Place, in_loop, in_switch, Maybe, returned, IsStmt, AreStmts, AreItems}
-use Rattle.c_tree.proofs.OneExpr.{gives_one, is_one}
-use Rattle.c_tree.proofs.OneDecl.{declr_one, begins_one, auto_init_one}
+use Rattle.c_rule.specs.RuleScope.{Env, Meaning, Thing, past, past_option, started}
+use Rattle.c_rule.specs.RuleTypes.{is_function, spec_or_int}
+use Rattle.c_rule.specs.RuleValues.{used, integer, scalar}
+use Rattle.c_rule.specs.RuleDecls.{constant_of, past_declr, Begins, IsAutoInit}
+use Rattle.c_rule.specs.RuleTree.{Gives}
+use Rattle.c_rule.specs.RuleStmts.{Declares, enter, leave, past_init, is_static, missing, declr_line, IsFunctionHere, IsExternHere, IsStaticHere, IsAutoHere, IsLocalBy, AreLocals, AreDecls, Place, in_loop, in_switch, Maybe, returned, IsStmt, AreStmts, AreItems}
+use Rattle.c_rule.proofs.OneExpr.{gives_one, is_one}
+use Rattle.c_rule.proofs.OneDecl.{declr_one, begins_one, auto_init_one}
 
 pub declares_one : (c : Env) (x : Name) (m : Meaning) (d d' : Env) → Declares c x m d → Declares c x m d' → d ≡ d'
 declares_one c x m d d' h h' = h.1 ∙ sym h'.1

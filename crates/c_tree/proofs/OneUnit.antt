@@ -13,17 +13,17 @@ use Rattle.c_tree.specs.TStmt.{Declr, LocalDecl, TStmts}
 use Rattle.c_tree.specs.TUnit as t
 use Rattle.c_tree.specs.TUnit.{Spec, Mems, Enumerator, Item, ParDecl, Var, Func, TExt, TypedUnit}
 use Rattle.c_tree.specs.TreeStmt.{Block}
-use Rattle.c_tree.specs.Laws.{OneTypedUnit}
-use Rattle.c_tree.specs.RuleScope.{Env, Meaning, Alias, Constant, Function, function_ref, in_scope, known, close, past_option, started}
-use Rattle.c_tree.specs.RuleTypes.{is_function, spec_type}
-use Rattle.c_tree.specs.RuleDecls.{constant_of, past_declr, IsDeclr, Begins}
-use Rattle.c_tree.specs.RuleStmts.{is_static, missing, AreDecls, AreStmts}
-use Rattle.c_tree.specs.RuleTags.{IsEnumerator, IsValued, AreEnumerators, AreMembers, AreTypes, IsDef, AreMems, IsMem, AreTypesOrInt, in_file, unplaced, member_of, as_member}
-use Rattle.c_tree.specs.RuleUnit.{combined, DeclaresInFile, parameters, IsHead, own_number, next_static, IsFunctionItem, IsElsewhere, IsOutside, IsOwn, IsItemBy, AreItems, AreAliases, AreParameters, AreParDecls, list_of, in_body, at_body, IsBody, IsExt, at_first, AreExts}
-use Rattle.c_tree.specs.RuleNames.{storage_of, types_of}
-use Rattle.c_tree.proofs.OneExpr.{gives_one, is_one}
-use Rattle.c_tree.proofs.OneStmt.{with_statics, decls_one, stmts_one}
-use Rattle.c_tree.proofs.OneDecl.{some_one, declr_one, begins_one}
+use Rattle.c_rule.specs.Laws.{OneTypedUnit}
+use Rattle.c_rule.specs.RuleScope.{Env, Meaning, Alias, Constant, Function, function_ref, in_scope, known, close, past_option, started}
+use Rattle.c_rule.specs.RuleTypes.{is_function, spec_type}
+use Rattle.c_rule.specs.RuleDecls.{constant_of, past_declr, IsDeclr, Begins}
+use Rattle.c_rule.specs.RuleStmts.{is_static, missing, AreDecls, AreStmts}
+use Rattle.c_rule.specs.RuleTags.{IsEnumerator, IsValued, AreEnumerators, AreMembers, AreTypes, IsDef, AreMems, IsMem, AreTypesOrInt, in_file, unplaced, member_of, as_member}
+use Rattle.c_rule.specs.RuleUnit.{combined, DeclaresInFile, parameters, IsHead, own_number, next_static, IsFunctionItem, IsElsewhere, IsOutside, IsOwn, IsItemBy, AreItems, AreAliases, AreParameters, AreParDecls, list_of, in_body, at_body, IsBody, IsExt, at_first, AreExts}
+use Rattle.c_rule.specs.RuleNames.{storage_of, types_of}
+use Rattle.c_rule.proofs.OneExpr.{gives_one, is_one}
+use Rattle.c_rule.proofs.OneStmt.{with_statics, decls_one, stmts_one}
+use Rattle.c_rule.proofs.OneDecl.{some_one, declr_one, begins_one}
 
 abbrev enumerator : Name → ℕ → Option TExpr → Enumerator
 enumerator x n a = record { name = x; value = n; expr = a }

@@ -5,14 +5,14 @@ use Rattle.c_type.specs.declared.Kind.TheVariants as kinds
 use Rattle.c_type.specs.Types.{CType, num, ptr, enum, fun, is_pointer, signed_type}
 use Rattle.c_type.specs.Cells.{Cell}
 use Rattle.c_tree.specs.TExpr.{Ref, Local, Param, Static, Ext, Func, Outer, Const, TUnary, Not, TBinary, Add, Sub, Lt, Gt, Le, Ge, Eq, Ne, TStep}
-use Rattle.c_tree.specs.Values as v
-use Rattle.c_tree.specs.Values.{same_object, suits, converted, Object, Target, Value, Num, Null, To, Fn, Stop, Stopped, NoFuel, Stack, Ended, Fault, Leaves, Ill}
-use Rattle.c_tree.specs.State.{State, Thing, Out, Gave, Halt, bind, choose, thing, set_thing, read_slot, write_slot, current}
-use Rattle.c_tree.specs.Context.{Context, object_of, own, outer, cells_in, shared}
-use Rattle.c_tree.specs.Pointers.{leaves, given_or, read_thing, read, load, write_cell, write_thing, write, store, look_thing, look, paste_thing, paste, copy, moved_in, moved, add_to, as_pointer, beyond, equal_things, unequal_null, equal, offsets, two_pointers, read_cells, overlap, is_end, write_cells}
+use Rattle.c_run.specs.Values as v
+use Rattle.c_run.specs.Values.{same_object, suits, converted, Object, Target, Value, Num, Null, To, Fn, Stop, Stopped, NoFuel, Stack, Ended, Fault, Leaves, Ill}
+use Rattle.c_run.specs.State.{State, Thing, Out, Gave, Halt, bind, choose, thing, set_thing, read_slot, write_slot, current}
+use Rattle.c_run.specs.Context.{Context, object_of, own, outer, cells_in, shared}
+use Rattle.c_run.specs.Pointers.{leaves, given_or, read_thing, read, load, write_cell, write_thing, write, store, look_thing, look, paste_thing, paste, copy, moved_in, moved, add_to, as_pointer, beyond, equal_things, unequal_null, equal, offsets, two_pointers, read_cells, overlap, is_end, write_cells}
 use Rattle.c_type.specs.Sizes.{size}
 use Rattle.c_tree.specs.Arith.{may_trap, two_numbers}
-use Rattle.c_tree.specs.Exprs.{unary_op, numbers, pointer_first, pointer_second, operate, as_place, as_function, place_of, value_of, updated, stepped, element, step_op}
+use Rattle.c_run.specs.Exprs.{unary_op, numbers, pointer_first, pointer_second, operate, as_place, as_function, place_of, value_of, updated, stepped, element, step_op}
 
 abbrev pub Quiet : {A : Type 0} → State → Out A → Type 0
 Quiet s (Gave a s1) = s1.turns ≡ s.turns

@@ -18,16 +18,16 @@ use Rattle.c_tree.specs.TreeExpr.{Expr, Exprs, AssignOp, BinaryOp, UnaryOp, Type
 use Rattle.c_tree.specs.TExpr as e
 use Rattle.c_tree.specs.TExpr.{TExpr, TUnary, TBinary, TStep, type_of}
 use Rattle.c_tree.specs.TStmt.{Declr}
-use Rattle.c_tree.specs.Laws.{FailsByNumber}
-use Rattle.c_tree.specs.RuleScope.{Judged, Is, Fails, onward, provided, Env, TagHead, Meaning, Alias, Constant, Thing, Function, meaning_of, tag_from, past, past_option}
-use Rattle.c_tree.specs.RuleTypes.{spec_type, spec_or_int, as_alias, declared_type, void_or, cast_type, sized_type}
-use Rattle.c_tree.specs.RuleValues.{used_as, used, integer, scalar, taken, value_for}
-use Rattle.c_tree.specs.RuleExprs as r
-use Rattle.c_tree.specs.RuleDecls.{with_bits, constant_of, dimension_of, past_declr, first_value, part_types}
-use Rattle.c_tree.specs.RuleStmts.{Place, enter, returned}
-use Rattle.c_tree.specs.RuleFails.{OneFails, CalledFails, ExprFails, ArgsFail, Refuses, MaybeFails, DerivedFails, DeclrFails, InitFails, InitsFail, AutoInitFails, ObjectFails, LocalFails, LocalsFail, DeclsFail, StmtFails, StmtsFail, ItemsFail}
-use Rattle.c_tree.specs.RuleFailsUnit as f
-use Rattle.c_tree.specs.RuleFailsUnit.{UnitFails}
+use Rattle.c_rule.specs.Laws.{FailsByNumber}
+use Rattle.c_rule.specs.RuleScope.{Judged, Is, Fails, onward, provided, Env, TagHead, Meaning, Alias, Constant, Thing, Function, meaning_of, tag_from, past, past_option}
+use Rattle.c_rule.specs.RuleTypes.{spec_type, spec_or_int, as_alias, declared_type, void_or, cast_type, sized_type}
+use Rattle.c_rule.specs.RuleValues.{used_as, used, integer, scalar, taken, value_for}
+use Rattle.c_rule.specs.RuleExprs as r
+use Rattle.c_rule.specs.RuleDecls.{with_bits, constant_of, dimension_of, past_declr, first_value, part_types}
+use Rattle.c_rule.specs.RuleStmts.{Place, enter, returned}
+use Rattle.c_rule.specs.RuleFails.{OneFails, CalledFails, ExprFails, ArgsFail, Refuses, MaybeFails, DerivedFails, DeclrFails, InitFails, InitsFail, AutoInitFails, ObjectFails, LocalFails, LocalsFail, DeclsFail, StmtFails, StmtsFail, ItemsFail}
+use Rattle.c_rule.specs.RuleFailsUnit as f
+use Rattle.c_rule.specs.RuleFailsUnit.{UnitFails}
 
 -- the number of a rule
 abbrev IsRule : ℕ → Type 0

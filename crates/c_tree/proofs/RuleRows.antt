@@ -11,12 +11,12 @@ use Rattle.c_tree.specs.Arith.{add32, sub32, traps}
 use Rattle.c_tree.specs.TExpr as e
 use Rattle.c_tree.specs.TExpr.{TExpr, name, int, convert, decay, designate, type_of}
 use Rattle.c_tree.specs.Constant.{constant}
-use Rattle.c_tree.specs.RuleScope.{Is, Fails, Env, Constant, TagHead, tag_from}
-use Rattle.c_tree.specs.RuleTypes.{declared_type, cast_type, sized_type}
-use Rattle.c_tree.specs.RuleValues.{taken}
-use Rattle.c_tree.specs.RuleExprs as r
+use Rattle.c_rule.specs.RuleScope.{Is, Fails, Env, Constant, TagHead, tag_from}
+use Rattle.c_rule.specs.RuleTypes.{declared_type, cast_type, sized_type}
+use Rattle.c_rule.specs.RuleValues.{taken}
+use Rattle.c_rule.specs.RuleExprs as r
 use Rattle.c_tree.specs.TreeExpr as u
-use Rattle.c_tree.proofs.Seen.{int_t, char_t, short_t, uint_t}
+use Rattle.c_rows.proofs.Seen.{int_t, char_t, short_t, uint_t}
 
 abbrev long_t : CType
 long_t = num k.Long

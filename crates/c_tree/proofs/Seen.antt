@@ -5,13 +5,13 @@ use Rattle.c_type.specs.Names.{Name, at_or}
 use Rattle.c_type.specs.Types.{CType, num}
 use Rattle.c_tree.specs.TExpr.{TExpr}
 use Rattle.c_tree.specs.TStmt.{Declr, Local, LocalDecl, TStmts}
-use Rattle.c_tree.specs.TUnit.{TExt, func, plain, TypedUnit, Program}
+use Rattle.c_tree.specs.TUnit.{TExt, func, plain, TypedUnit, Program, no_unit}
 use Rattle.c_tree.specs.Bodies.{BodyAt}
-use Rattle.c_tree.specs.Values.{Object, Value, Num, Stop, NoFuel}
-use Rattle.c_tree.specs.State.{State, Act, Thing, Slot, Out, Gave, Halt, thing}
-use Rattle.c_tree.specs.Context.{Linked, linked, no_unit}
-use Rattle.c_tree.specs.Scope.{Named, name_at, object_named, start_of, line_of}
-use Rattle.c_tree.specs.Place.{place}
+use Rattle.c_run.specs.Values.{Object, Value, Num, Stop, NoFuel}
+use Rattle.c_run.specs.State.{State, Act, Thing, Slot, Out, Gave, Halt, thing}
+use Rattle.c_run.specs.Context.{Linked, linked}
+use Rattle.c_run.specs.Scope.{Named, name_at, object_named, start_of, line_of}
+use Rattle.c_run.specs.Place.{place}
 
 abbrev pub int_t : CType
 int_t = num kinds.Int

@@ -15,15 +15,15 @@ use Rattle.c_tree.specs.TreeUnit as uu
 use Rattle.c_tree.specs.TStmt as st
 use Rattle.c_tree.specs.TStmt.{Declr, Local, LocalDecl, TStmt, TStmts, TItems}
 use Rattle.c_tree.specs.TUnit.{Spec, Mems, Enumerator, Item, ParDecl, Func, TExt}
-use Rattle.c_tree.specs.Laws.{TagsAreLaid}
-use Rattle.c_tree.specs.RuleScope.{Env, known, is_sized, past, past_option, started}
-use Rattle.c_tree.specs.RuleDecls.{past_declr, fills_chars, IsSingle, IsInit, AreInits, Begins, part_types}
-use Rattle.c_tree.specs.RuleStmts.{past_init, enter, IsLocalBy, AreLocals, AreDecls, Place, in_loop, in_switch, IsStmt, AreStmts, AreItems}
-use Rattle.c_tree.specs.RuleTags.{AreEnumerators, AreMembers, AreTypes, IsDef, AreMems, IsMem, AreTypesOrInt, unplaced, as_member, member_of}
-use Rattle.c_tree.specs.RuleNames.{types_of}
-use Rattle.c_tree.specs.RuleUnit as r
-use Rattle.c_tree.specs.RuleUnit.{IsItemBy, AreAliases, AreParameters, AreParDecls, list_of, in_body, at_body, parameters, IsHead, IsBody, IsExt, AreExts, at_first}
-use Rattle.c_tree.proofs.LaidTags.{laid_with, count_more, all_within_more}
+use Rattle.c_rule.specs.Laws.{TagsAreLaid}
+use Rattle.c_rule.specs.RuleScope.{Env, known, is_sized, past, past_option, started}
+use Rattle.c_rule.specs.RuleDecls.{past_declr, fills_chars, IsSingle, IsInit, AreInits, Begins, part_types}
+use Rattle.c_rule.specs.RuleStmts.{past_init, enter, IsLocalBy, AreLocals, AreDecls, Place, in_loop, in_switch, IsStmt, AreStmts, AreItems}
+use Rattle.c_rule.specs.RuleTags.{AreEnumerators, AreMembers, AreTypes, IsDef, AreMems, IsMem, AreTypesOrInt, unplaced, as_member, member_of}
+use Rattle.c_rule.specs.RuleNames.{types_of}
+use Rattle.c_rule.specs.RuleUnit as r
+use Rattle.c_rule.specs.RuleUnit.{IsItemBy, AreAliases, AreParameters, AreParDecls, list_of, in_body, at_body, parameters, IsHead, IsBody, IsExt, AreExts, at_first}
+use Rattle.c_rule.proofs.LaidTags.{laid_with, count_more, all_within_more}
 
 -- parts that close no tag
 

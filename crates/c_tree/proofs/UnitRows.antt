@@ -3,7 +3,7 @@ use Rattle.std.proofs.Common.{[], ◌∷◌, Some, None, true, false, refl, lit�
 use Rattle.c_type.specs.Names.{Name}
 use Rattle.c_type.specs.declared.Kind.TheVariants as kinds
 use Rattle.c_type.specs.declared.TagKind.TheVariants.{Struct, Enum}
-use Rattle.c_type.specs.Tokens as k
+use Rattle.c_lex.specs.Tokens as k
 use Rattle.c_tree.specs.declared.decl.Storage.TheVariants.{Auto, Register, Static, Extern}
 use Rattle.c_tree.specs.declared.expr.AssignOp.TheVariants as a
 use Rattle.c_tree.specs.declared.expr.BinaryOp.TheVariants as b
@@ -12,15 +12,15 @@ use Rattle.c_tree.specs.TreeExpr as t
 use Rattle.c_tree.specs.TreeDecl as td
 use Rattle.c_tree.specs.TreeStmt as ts
 use Rattle.c_tree.specs.TreeUnit as tu
-use Rattle.c_tree.specs.Words.{Unsigned, Char, Short, Long, Int, Void, tok, mark, word}
-use Rattle.c_tree.specs.WrittenType.{word_part, tag_part, name_part}
-use Rattle.c_tree.specs.WrittenExpr as w
-use Rattle.c_tree.specs.WrittenDeclr as dw
-use Rattle.c_tree.specs.WrittenSpecs as sw
-use Rattle.c_tree.specs.WrittenDecl as gw
-use Rattle.c_tree.specs.WrittenStmt as zw
-use Rattle.c_tree.specs.WrittenUnit as uw
-use Rattle.c_tree.specs.Reads.{ReadsTokens}
+use Rattle.c_grammar.specs.Words.{Unsigned, Char, Short, Long, Int, Void, tok, mark, word}
+use Rattle.c_grammar.specs.WrittenType.{word_part, tag_part, name_part}
+use Rattle.c_grammar.specs.WrittenExpr as w
+use Rattle.c_grammar.specs.WrittenDeclr as dw
+use Rattle.c_grammar.specs.WrittenSpecs as sw
+use Rattle.c_grammar.specs.WrittenDecl as gw
+use Rattle.c_grammar.specs.WrittenStmt as zw
+use Rattle.c_grammar.specs.WrittenUnit as uw
+use Rattle.c_grammar.specs.Reads.{ReadsTokens}
 
 abbrev n_A : Name
 n_A = codes "A"

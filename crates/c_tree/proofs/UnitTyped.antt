@@ -9,9 +9,9 @@ use Rattle.c_tree.specs.TreeDecl as ud
 use Rattle.c_tree.specs.TreeStmt as us
 use Rattle.c_tree.specs.TreeUnit as uu
 use Rattle.c_tree.specs.TUnit.{TypedUnit}
-use Rattle.c_tree.specs.RuleUnit.{IsTyped}
-use Rattle.c_tree.proofs.Seen.{unit_at}
-use Rattle.c_tree.proofs.MachineRows.{four}
+use Rattle.c_rule.specs.RuleUnit.{IsTyped}
+use Rattle.c_rows.proofs.Seen.{unit_at}
+use Rattle.c_rows.proofs.MachineRows.{four}
 
 abbrev n-g : Name
 n-g = 103 ∷ []

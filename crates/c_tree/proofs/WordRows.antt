@@ -2,13 +2,13 @@
 use Rattle.std.proofs.Common.{◌≡◌, ℕ, List, [], ◌∷◌, map, refl, codes}
 use Rattle.c_type.specs.Names.{at_or}
 use Rattle.c_type.specs.declared.TagKind.TheVariants as g
-use Rattle.c_type.specs.Tokens.{words, marks}
+use Rattle.c_lex.specs.Tokens.{words, marks}
 use Rattle.c_tree.specs.declared.decl.Storage.TheVariants as c
 use Rattle.c_tree.specs.declared.expr.AssignOp.TheVariants as a
 use Rattle.c_tree.specs.declared.expr.BinaryOp.TheVariants as b
 use Rattle.c_tree.specs.declared.expr.UnaryOp.TheVariants as u
 use Rattle.c_tree.specs.declared.expr.StepOp.TheVariants as s
-use Rattle.c_tree.specs.Words as w
+use Rattle.c_grammar.specs.Words as w
 
 abbrev word_at : ℕ → List ℕ
 word_at k = at_or [] words k

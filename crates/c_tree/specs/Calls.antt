@@ -8,12 +8,12 @@ use Rattle.c_type.specs.Sizes.{size, up_to}
 use Rattle.c_tree.specs.TStmt.{locals}
 use Rattle.c_tree.specs.TUnit.{Func, Var}
 use Rattle.c_tree.specs.Bodies.{BodyAt, Auto, autos}
-use Rattle.c_tree.specs.Values.{Target, Body, Putchar, Getchar, Exit, Value, Num, Null, Fn, converted, suits, zero_of, NoFuel, Stack, Ended}
-use Rattle.c_tree.specs.State.{State, Act, Made, Thing, Out, Gave, Halt, bind, choose, Flow, Returned}
-use Rattle.c_tree.specs.Context.{Context, Linked, context, fresh_all, shared}
-use Rattle.c_tree.specs.Pointers.{leaves}
-use Rattle.c_tree.specs.Exprs.{Arg}
-use Rattle.c_tree.specs.Stmts.{Given, Rest, turn, inits, stmts, loop}
+use Rattle.c_run.specs.Values.{Target, Body, Putchar, Getchar, Exit, Value, Num, Null, Fn, converted, suits, zero_of, NoFuel, Stack, Ended}
+use Rattle.c_run.specs.State.{State, Act, Made, Thing, Out, Gave, Halt, bind, choose, Flow, Returned}
+use Rattle.c_run.specs.Context.{Context, Linked, context, fresh_all, shared}
+use Rattle.c_run.specs.Pointers.{leaves}
+use Rattle.c_run.specs.Exprs.{Arg}
+use Rattle.c_run.specs.Stmts.{Given, Rest, turn, inits, stmts, loop}
 
 -- the lowest address of the stack, and the base of main
 abbrev pub stack_base : ℕ

@@ -7,11 +7,11 @@ use Rattle.c_type.specs.Sizes.{size, no_tag}
 use Rattle.c_type.specs.Cells.{Cell, cells}
 use Rattle.c_tree.specs.TExpr.{Ref, Local, Param, Static, Ext, Func, Outer, Const}
 use Rattle.c_tree.specs.TUnit.{TypedUnit, Program}
-use Rattle.c_tree.specs.Lasting.{Lasting, number_in, OfUnit, OfName, OfText, lastings}
+use Rattle.c_run.specs.Lasting.{Lasting, number_in, OfUnit, OfName, OfText, lastings}
 use Rattle.c_tree.specs.Bodies.{BodyAt, body_in, body_named, bodies}
-use Rattle.c_tree.specs.Values as v
-use Rattle.c_tree.specs.Values.{Object, Target, Value, zero_of, Body, Putchar, Getchar, Exit}
-use Rattle.c_tree.specs.State.{Slot, Thing}
+use Rattle.c_run.specs.Values as v
+use Rattle.c_run.specs.Values.{Object, Target, Value, zero_of, Body, Putchar, Getchar, Exit}
+use Rattle.c_run.specs.State.{Slot, Thing}
 
 -- a program with its objects of static life and its functions in order
 pub record Linked : Type 0 where

@@ -5,12 +5,12 @@ use Rattle.c_type.specs.declared.Kind.TheVariants as kinds
 use Rattle.c_type.specs.Types.{CType, num, struct, union, fun, is_pointer, signed_type, target}
 use Rattle.c_type.specs.Sizes.{size}
 use Rattle.c_tree.specs.TExpr.{Ref, Func, Outer, Const, TUnary, Not, TBinary, Add, Sub, TStep, PreInc, PreDec, PostInc, PostDec, TExpr, TArgs, name, int, text, unary, deref, address, step, size_of, size_of_type, cast, convert, decay, designate, binary, both, either, comma, choice, assign, update, index, call, member, arrow, no_args, more_args, type_of}
-use Rattle.c_tree.specs.Values.{Object, Target, Value, Num, To, Fn, converted, is_true, truth, Fault}
+use Rattle.c_run.specs.Values.{Object, Target, Value, Num, To, Fn, converted, is_true, truth, Fault}
 use Rattle.c_tree.specs.Arith.{one_number, two_numbers, may_trap}
 use Rattle.c_tree.specs.Constant.{is_zero}
-use Rattle.c_tree.specs.State.{State, Out, Gave, Halt, bind, choose, current}
-use Rattle.c_tree.specs.Context.{Context, shared, object_of, text_object, own, outer, offset}
-use Rattle.c_tree.specs.Pointers.{leaves, load, store, copy, add_to, as_pointer, beyond, two_pointers}
+use Rattle.c_run.specs.State.{State, Out, Gave, Halt, bind, choose, current}
+use Rattle.c_run.specs.Context.{Context, shared, object_of, text_object, own, outer, offset}
+use Rattle.c_run.specs.Pointers.{leaves, load, store, copy, add_to, as_pointer, beyond, two_pointers}
 
 -- an argument: its type, whether it is the constant 0, its value
 pub record Arg : Type 0 where

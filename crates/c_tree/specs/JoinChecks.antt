@@ -8,11 +8,10 @@ use Rattle.c_type.specs.declared.Kind.TheVariants.{Int}
 use Rattle.c_type.specs.Types.{CType, num, fun, Tag, is_integer, is_pointer}
 use Rattle.c_tree.specs.TExpr.{TArgs, no_args, more_args, type_of}
 use Rattle.c_tree.specs.Constant.{is_zero}
-use Rattle.c_tree.specs.TUnit.{TypedUnit, Program}
-use Rattle.c_tree.specs.Context.{no_unit, putchar_name, getchar_name, exit_name}
-use Rattle.c_tree.specs.Run.{main_name}
-use Rattle.c_tree.specs.JoinSaid.{Saying, Declared, Common, Begun, Defined, Used, Named, Called, Subject, external, Fact, facts}
-use Rattle.c_tree.specs.JoinTypes.{Relation, TagAt, IsWidest, TypeIn, between, agree_by, declare_alike}
+use Rattle.c_tree.specs.TUnit.{TypedUnit, Program, no_unit}
+use Rattle.c_tree.specs.Library.{putchar_name, getchar_name, exit_name, main_name}
+use Rattle.c_join.specs.JoinSaid.{Saying, Declared, Common, Begun, Defined, Used, Named, Called, Subject, external, Fact, facts}
+use Rattle.c_join.specs.JoinTypes.{Relation, TagAt, IsWidest, TypeIn, between, agree_by, declare_alike}
 
 -- `_start`
 abbrev pub start_name : Name

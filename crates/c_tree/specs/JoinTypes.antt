@@ -5,8 +5,7 @@ use Rattle.c_type.specs.Names.{Name, same_name, at_or}
 use Rattle.c_type.specs.Types.{CType, num, void, ptr, arr, struct, union, enum, fun, kind_code, Tag, Member}
 use Rattle.c_type.specs.declared.TagKind.{TagKind}
 use Rattle.c_type.specs.declared.TagKind.TheVariants.{Struct, Union, Enum}
-use Rattle.c_tree.specs.TUnit.{TypedUnit}
-use Rattle.c_tree.specs.Context.{no_unit}
+use Rattle.c_tree.specs.TUnit.{TypedUnit, no_unit}
 
 -- a tag of a program: its unit and its number there
 pub record TagAt : Type 0 where

@@ -7,7 +7,7 @@ use Rattle.c_type.specs.declared.Kind.TheVariants.{Char}
 use Rattle.c_type.specs.Types.{CType, num, arr}
 use Rattle.c_tree.specs.TStmt.{Init, bytes}
 use Rattle.c_tree.specs.TUnit.{TypedUnit, Program}
-use Rattle.c_tree.specs.Mentions.{Mention, Text, Use, Extern, Own, Outside, in_exts}
+use Rattle.c_run.specs.Mentions.{Mention, Text, Use, Extern, Own, Outside, in_exts}
 
 -- what an object of static life stands for: static k of a unit, an external, text k of a unit
 pub data Origin : Type 0 where

@@ -5,13 +5,13 @@ use Rattle.c_tree.specs.TreeExpr.{Expr}
 use Rattle.c_tree.specs.TreeUnit as u
 use Rattle.c_tree.specs.TExpr.{TExpr}
 use Rattle.c_tree.specs.TUnit.{Program, TypedUnit}
-use Rattle.c_tree.specs.Values.{Value, Stop, Stopped, NoFuel}
-use Rattle.c_tree.specs.State.{State, Gave, Halt, Changes}
-use Rattle.c_tree.specs.Run.{run}
-use Rattle.c_tree.specs.RuleScope.{Env}
-use Rattle.c_tree.specs.RuleTree.{IsExpr}
-use Rattle.c_tree.specs.RuleUnit.{IsTyped}
-use Rattle.c_tree.specs.RuleFailsUnit.{UnitFails}
+use Rattle.c_run.specs.Values.{Value, Stop, Stopped, NoFuel}
+use Rattle.c_run.specs.State.{State, Gave, Halt, Changes}
+use Rattle.c_run.specs.Run.{run}
+use Rattle.c_rule.specs.RuleScope.{Env}
+use Rattle.c_rule.specs.RuleTree.{IsExpr}
+use Rattle.c_rule.specs.RuleUnit.{IsTyped}
+use Rattle.c_rule.specs.RuleFailsUnit.{UnitFails}
 
 -- n is fuel enough for the stop number n
 abbrev pub HasFuel : Type 0

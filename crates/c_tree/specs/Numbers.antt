@@ -4,7 +4,7 @@ use Rattle.std.specs.Prelude.{◌≡◌, ℕ, suc, ◌<◌, List, [], ◌∷◌,
 use Rattle.c_tree.specs.TUnit.{TypedUnit, Func, funcs_of}
 use Rattle.c_tree.specs.Starts.{starts}
 use Rattle.c_tree.specs.Bodies.{autos}
-use Rattle.c_tree.specs.Mentions.{Mention, Text, Own, in_exts}
+use Rattle.c_run.specs.Mentions.{Mention, Text, Own, in_exts}
 
 -- n, n + 1 and so on
 abbrev pub IsCounted : ℕ → List ℕ → Type 0

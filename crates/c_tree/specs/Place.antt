@@ -4,12 +4,12 @@ use Rattle.std.specs.Prelude.{ℕ, zero, suc, ◌+◌, ◌-◌, ◌*◌, List, [
 use Rattle.c_type.specs.Names.{at_or, pick}
 use Rattle.c_type.specs.Sizes.{size, up_to}
 use Rattle.c_tree.specs.TUnit.{Func}
-use Rattle.c_tree.specs.Lasting.{Lasting}
+use Rattle.c_run.specs.Lasting.{Lasting}
 use Rattle.c_tree.specs.Bodies.{BodyAt, autos}
-use Rattle.c_tree.specs.Values.{Object, Static, Local}
-use Rattle.c_tree.specs.State.{Made}
-use Rattle.c_tree.specs.Context.{Linked, Context, context, context_of}
-use Rattle.c_tree.specs.Calls.{no_made, rounded}
+use Rattle.c_run.specs.Values.{Object, Static, Local}
+use Rattle.c_run.specs.State.{Made}
+use Rattle.c_run.specs.Context.{Linked, Context, context, context_of}
+use Rattle.c_run.specs.Calls.{no_made, rounded}
 
 -- where .data begins
 abbrev pub data_base : ℕ

@@ -6,10 +6,10 @@ use Rattle.c_type.specs.Types.{CType, num, ptr, enum, fun}
 use Rattle.c_type.specs.Sizes.{size}
 use Rattle.c_type.specs.Cells.{Cell}
 use Rattle.c_tree.specs.TExpr.{TBinary, Sub, Lt, Gt, Le, Ge, Eq, Ne}
-use Rattle.c_tree.specs.Values.{Object, Value, Num, Null, To, Fn, same_object, suits, same_target, truth, Fault, Leaves}
+use Rattle.c_run.specs.Values.{Object, Value, Num, Null, To, Fn, same_object, suits, same_target, truth, Fault, Leaves}
 use Rattle.c_tree.specs.Arith.{sub32}
-use Rattle.c_tree.specs.State.{State, Thing, Slot, Out, Gave, Halt, bind, choose, thing, put_cell, set_thing, read_slot, write_slot}
-use Rattle.c_tree.specs.Context.{Context, shared, cells_in}
+use Rattle.c_run.specs.State.{State, Thing, Slot, Out, Gave, Halt, bind, choose, thing, put_cell, set_thing, read_slot, write_slot}
+use Rattle.c_run.specs.Context.{Context, shared, cells_in}
 
 -- defined C ends by that rule
 abbrev pub leaves : {A : Type 0} → ℕ → State → Out A

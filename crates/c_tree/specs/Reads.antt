@@ -1,18 +1,18 @@
 -- Which trees tokens spell: an expression, a declaration, a unit.
 use Rattle.std.specs.Prelude.{◌≡◌, ℕ, suc, ◌-◌, ◌≤◌, List, [], ◌∷◌, length, drop, Bool, true, false, nat_eq, ◌||◌, ◌&&◌}
 use Rattle.c_type.specs.Names.{Name}
-use Rattle.c_type.specs.Tokens.{Tok, Token}
-use Rattle.c_type.specs.Tokens as k
-use Rattle.c_type.specs.Falls.{Falls}
-use Rattle.c_tree.specs.Words.{open_round, close_round, open_square, close_square, open_brace, close_brace, comma_mark, semicolon, colon}
+use Rattle.c_lex.specs.Tokens.{Tok, Token}
+use Rattle.c_lex.specs.Tokens as k
+use Rattle.c_lex.specs.Falls.{Falls}
+use Rattle.c_grammar.specs.Words.{open_round, close_round, open_square, close_square, open_brace, close_brace, comma_mark, semicolon, colon}
 use Rattle.c_tree.specs.TreeExpr.{Expr, expr_depth}
 use Rattle.c_tree.specs.TreeDecl.{LocalDecl, local_depth}
 use Rattle.c_tree.specs.TreeUnit.{Ext, FuncHead, ext_depth, head_depth, unit_depth}
 use Rattle.c_tree.specs.TreeUnit as t
-use Rattle.c_tree.specs.WrittenExpr.{Written, IsAtLevel}
-use Rattle.c_tree.specs.WrittenExpr as w
-use Rattle.c_tree.specs.WrittenDecl.{WrittenLocal, plain_local, IsLocal, spell_local}
-use Rattle.c_tree.specs.WrittenUnit.{WrittenExt, WrittenHead, typedef, tag_only, object, func, plain_ext, plain_head, IsExt, IsFuncHead, spell_ext, spell_head, AreExts, spell_exts, plain_unit}
+use Rattle.c_grammar.specs.WrittenExpr.{Written, IsAtLevel}
+use Rattle.c_grammar.specs.WrittenExpr as w
+use Rattle.c_grammar.specs.WrittenDecl.{WrittenLocal, plain_local, IsLocal, spell_local}
+use Rattle.c_grammar.specs.WrittenUnit.{WrittenExt, WrittenHead, typedef, tag_only, object, func, plain_ext, plain_head, IsExt, IsFuncHead, spell_ext, spell_head, AreExts, spell_exts, plain_unit}
 
 -- the greatest depth of a tree, and the greatest number of brackets that are open at a token
 abbrev pub most : ℕ

@@ -11,10 +11,10 @@ use Rattle.c_tree.specs.TExpr.{TExpr, type_of}
 use Rattle.c_tree.specs.TStmt as st
 use Rattle.c_tree.specs.TStmt.{Declr}
 use Rattle.c_tree.specs.Constant.{constant, given, is_zero}
-use Rattle.c_tree.specs.RuleScope.{Judged, Is, Fails, onward, provided, Env, past, past_option}
-use Rattle.c_tree.specs.RuleTypes.{declared_type}
-use Rattle.c_tree.specs.RuleValues.{used, taken, value_for}
-use Rattle.c_tree.specs.RuleTree.{Gives}
+use Rattle.c_rule.specs.RuleScope.{Judged, Is, Fails, onward, provided, Env, past, past_option}
+use Rattle.c_rule.specs.RuleTypes.{declared_type}
+use Rattle.c_rule.specs.RuleValues.{used, taken, value_for}
+use Rattle.c_rule.specs.RuleTree.{Gives}
 
 -- a constant expression with its 32 bits
 pub record Number : Type 0 where

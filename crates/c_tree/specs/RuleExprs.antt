@@ -12,9 +12,9 @@ use Rattle.c_tree.specs.declared.expr.StepOp.TheVariants as so
 use Rattle.c_tree.specs.TreeExpr.{AssignOp, BinaryOp, UnaryOp, StepOp}
 use Rattle.c_tree.specs.TExpr as e
 use Rattle.c_tree.specs.TExpr.{TExpr, TUnary, TBinary, TStep, type_of}
-use Rattle.c_tree.specs.RuleScope.{Judged, Is, Fails, onward, provided, Env, Meaning, Alias, Constant, Thing, Function, function_ref, known, is_sized}
-use Rattle.c_tree.specs.RuleTypes.{is_void, is_function}
-use Rattle.c_tree.specs.RuleValues.{used, to_type, wide, widen, meeting, integer, scalar, is_object_pointer, target_is_sized, is_place, is_open, are_alike, are_integers, is_with_zero, is_taken, taken, is_scalar}
+use Rattle.c_rule.specs.RuleScope.{Judged, Is, Fails, onward, provided, Env, Meaning, Alias, Constant, Thing, Function, function_ref, known, is_sized}
+use Rattle.c_rule.specs.RuleTypes.{is_void, is_function}
+use Rattle.c_rule.specs.RuleValues.{used, to_type, wide, widen, meeting, integer, scalar, is_object_pointer, target_is_sized, is_place, is_open, are_alike, are_integers, is_with_zero, is_taken, taken, is_scalar}
 
 -- names
 

@@ -12,13 +12,13 @@ use Rattle.c_tree.specs.TExpr as e
 use Rattle.c_tree.specs.TExpr.{TExpr}
 use Rattle.c_tree.specs.TStmt as st
 use Rattle.c_tree.specs.TStmt.{TStmt, TItems, Declr, Local, LocalDecl}
-use Rattle.c_tree.specs.RuleScope.{Judged, Is, Fails, onward, Env, Meaning, Thing, meaning_of, known, is_sized, past, past_option, started}
-use Rattle.c_tree.specs.RuleTypes.{is_function, cast_type, sized_type, declared_type, spec_or_int}
-use Rattle.c_tree.specs.RuleValues.{used, scalar, integer, value_for}
-use Rattle.c_tree.specs.RuleExprs as r
-use Rattle.c_tree.specs.RuleTree.{IsExpr}
-use Rattle.c_tree.specs.RuleDecls.{dimension_of, constant_of, is_name, is_some, past_declr, IsDerived, IsDeclr, fills_chars, first_value, is_aggregate, part_types, IsInit}
-use Rattle.c_tree.specs.RuleStmts.{is_free, innermost, Declares, enter, missing, declr_line, IsLocalBy, AreLocals, AreDecls, Place, in_loop, in_switch, returned, labels_differ, IsStmt, AreItems}
+use Rattle.c_rule.specs.RuleScope.{Judged, Is, Fails, onward, Env, Meaning, Thing, meaning_of, known, is_sized, past, past_option, started}
+use Rattle.c_rule.specs.RuleTypes.{is_function, cast_type, sized_type, declared_type, spec_or_int}
+use Rattle.c_rule.specs.RuleValues.{used, scalar, integer, value_for}
+use Rattle.c_rule.specs.RuleExprs as r
+use Rattle.c_rule.specs.RuleTree.{IsExpr}
+use Rattle.c_rule.specs.RuleDecls.{dimension_of, constant_of, is_name, is_some, past_declr, IsDerived, IsDeclr, fills_chars, first_value, is_aggregate, part_types, IsInit}
+use Rattle.c_rule.specs.RuleStmts.{is_free, innermost, Declares, enter, missing, declr_line, IsLocalBy, AreLocals, AreDecls, Place, in_loop, in_switch, returned, labels_differ, IsStmt, AreItems}
 
 -- expressions
 

@@ -11,14 +11,14 @@ use Rattle.c_tree.specs.TreeUnit as uu
 use Rattle.c_tree.specs.TExpr as e
 use Rattle.c_tree.specs.TStmt.{Declr, LocalDecl}
 use Rattle.c_tree.specs.TUnit.{Spec, Mems, Enumerator, Item, ParDecl, TExt}
-use Rattle.c_tree.specs.RuleScope.{Fails, Env, Meaning, Alias, Constant, Thing, Function, in_scope, function_ref, past_option}
-use Rattle.c_tree.specs.RuleTypes.{is_function, spec_type}
-use Rattle.c_tree.specs.RuleDecls.{constant_of, past_declr, IsDeclr}
-use Rattle.c_tree.specs.RuleStmts.{is_free, is_static, missing, AreDecls}
-use Rattle.c_tree.specs.RuleTags.{IsEnumerator, in_file, names_differ, AreTypes, AreMems, IsMem, AreTypesOrInt}
-use Rattle.c_tree.specs.RuleNames.{storage_of, types_of, tags_in, defined_in, tag_names}
-use Rattle.c_tree.specs.RuleUnit.{combined, DeclaresInFile, own_number, IsItemBy, list_of, is_listed, is_structure, AreParameters, AreParDecls, in_body, at_body, parameters, names_of, IsHead, IsExt, at_first}
-use Rattle.c_tree.specs.RuleFails.{Refuses, MaybeFails, DeclrFails, InitFails, HasInit, IsUnsized, DeclsFail, StmtsFail}
+use Rattle.c_rule.specs.RuleScope.{Fails, Env, Meaning, Alias, Constant, Thing, Function, in_scope, function_ref, past_option}
+use Rattle.c_rule.specs.RuleTypes.{is_function, spec_type}
+use Rattle.c_rule.specs.RuleDecls.{constant_of, past_declr, IsDeclr}
+use Rattle.c_rule.specs.RuleStmts.{is_free, is_static, missing, AreDecls}
+use Rattle.c_rule.specs.RuleTags.{IsEnumerator, in_file, names_differ, AreTypes, AreMems, IsMem, AreTypesOrInt}
+use Rattle.c_rule.specs.RuleNames.{storage_of, types_of, tags_in, defined_in, tag_names}
+use Rattle.c_rule.specs.RuleUnit.{combined, DeclaresInFile, own_number, IsItemBy, list_of, is_listed, is_structure, AreParameters, AreParDecls, in_body, at_body, parameters, names_of, IsHead, IsExt, at_first}
+use Rattle.c_rule.specs.RuleFails.{Refuses, MaybeFails, DeclrFails, InitFails, HasInit, IsUnsized, DeclsFail, StmtsFail}
 
 -- tags
 

@@ -3,11 +3,10 @@ use Rattle.std.specs.Prelude.{List, [], ◌∷◌, ◌++◌, Option, Some, None}
 use Rattle.std.specs.List.{flat_map}
 use Rattle.c_type.specs.Names.{Name, or_default}
 use Rattle.c_type.specs.declared.TagKind.TheVariants.{Struct, Union, Enum}
-use Rattle.c_tree.specs.TreeDecl.{Storage, Types, spec, def, TagDef, struct, union, enum, Mem, mem, Mems, no_mems, more_mems, TagSpec, ref, body, FileSpecs, Item, Init}
+use Rattle.c_tree.specs.TreeDecl.{Storage, Types, spec, def, TagDef, struct, union, enum, Mem, mem, Mems, no_mems, more_mems, TagSpec, ref, body, FileSpecs, Item, Init, declared}
 use Rattle.c_tree.specs.TreeUnit.{Ext, typedef, tag_only, object, func, Unit}
-use Rattle.c_tree.specs.WrittenDeclr.{declared}
-use Rattle.c_tree.specs.RuleScope.{TagHead, Body}
-use Rattle.c_tree.specs.RuleStmts.{is_static}
+use Rattle.c_rule.specs.RuleScope.{TagHead, Body}
+use Rattle.c_rule.specs.RuleStmts.{is_static}
 
 -- the tags whose bodies stand in the words of a declaration, in the order of their closing braces
 abbrev mutual

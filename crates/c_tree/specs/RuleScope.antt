@@ -7,7 +7,7 @@ use Rattle.c_type.specs.Types.{CType, arr, struct, union, enum, Tag}
 use Rattle.c_type.specs.Sizes.{laid_as}
 use Rattle.c_tree.specs.TreeExpr.{Expr}
 use Rattle.c_tree.specs.TExpr.{Ref, Func as OwnFunc, Outer}
-use Rattle.c_tree.specs.RuleTexts.{texts_in}
+use Rattle.c_rule.specs.RuleTexts.{texts_in}
 
 -- the outcome of a rule: what it gives, or its number where it fails
 pub data Judged (A : Type 0) : Type 0 where

@@ -11,11 +11,11 @@ use Rattle.c_tree.specs.TExpr as e
 use Rattle.c_tree.specs.TExpr.{TExpr}
 use Rattle.c_tree.specs.TStmt as st
 use Rattle.c_tree.specs.TStmt.{TStmt, TStmts, TItems, Declr, Local, LocalDecl}
-use Rattle.c_tree.specs.RuleScope.{Judged, Is, Env, Entry, Meaning, Thing, Function, in_scope, function_ref, known, is_sized, past, past_option, started}
-use Rattle.c_tree.specs.RuleTypes.{is_function, spec_or_int, joined}
-use Rattle.c_tree.specs.RuleValues.{used, integer, scalar, value_for}
-use Rattle.c_tree.specs.RuleTree.{Gives}
-use Rattle.c_tree.specs.RuleDecls.{Number, IsConstant, past_declr, IsDeclr, Begins, IsAutoInit, given_by}
+use Rattle.c_rule.specs.RuleScope.{Judged, Is, Env, Entry, Meaning, Thing, Function, in_scope, function_ref, known, is_sized, past, past_option, started}
+use Rattle.c_rule.specs.RuleTypes.{is_function, spec_or_int, joined}
+use Rattle.c_rule.specs.RuleValues.{used, integer, scalar, value_for}
+use Rattle.c_rule.specs.RuleTree.{Gives}
+use Rattle.c_rule.specs.RuleDecls.{Number, IsConstant, past_declr, IsDeclr, Begins, IsAutoInit, given_by}
 
 -- scopes
 

@@ -10,10 +10,10 @@ use Rattle.c_tree.specs.TreeExpr.{Expr}
 use Rattle.c_tree.specs.TStmt.{Declr}
 use Rattle.c_tree.specs.TUnit as t
 use Rattle.c_tree.specs.TUnit.{Spec, Mems, Enumerator}
-use Rattle.c_tree.specs.RuleScope.{Is, Env, Entry, Constant, known, is_sized, close, past_option}
-use Rattle.c_tree.specs.RuleTypes.{is_function, spec_type}
-use Rattle.c_tree.specs.RuleDecls.{Number, IsConstant, past_declr, IsDeclr}
-use Rattle.c_tree.specs.RuleStmts.{is_free}
+use Rattle.c_rule.specs.RuleScope.{Is, Env, Entry, Constant, known, is_sized, close, past_option}
+use Rattle.c_rule.specs.RuleTypes.{is_function, spec_type}
+use Rattle.c_rule.specs.RuleDecls.{Number, IsConstant, past_declr, IsDeclr}
+use Rattle.c_rule.specs.RuleStmts.{is_free}
 
 -- tags
 

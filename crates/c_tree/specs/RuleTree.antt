@@ -6,10 +6,10 @@ use Rattle.c_type.specs.Types.{CType, num, arr}
 use Rattle.c_tree.specs.TreeExpr.{Expr, Exprs, comma, assign, choice, binary, unary, size_of, size_of_type, cast, index, call, member, arrow, post, name, int, chr, text, no_exprs, more_exprs}
 use Rattle.c_tree.specs.TExpr as e
 use Rattle.c_tree.specs.TExpr.{TExpr, TArgs, type_of}
-use Rattle.c_tree.specs.RuleScope.{Judged, Is, onward, Env, past, meaning_of}
-use Rattle.c_tree.specs.RuleTypes.{cast_type, sized_type}
-use Rattle.c_tree.specs.RuleValues.{scalar}
-use Rattle.c_tree.specs.RuleExprs as r
+use Rattle.c_rule.specs.RuleScope.{Judged, Is, onward, Env, past, meaning_of}
+use Rattle.c_rule.specs.RuleTypes.{cast_type, sized_type}
+use Rattle.c_rule.specs.RuleValues.{scalar}
+use Rattle.c_rule.specs.RuleExprs as r
 
 -- the called expression: a name that is not declared is a function, and any other is one by rule 20
 abbrev pub IsCalled : Env → Expr → (TExpr → Type 0) → TExpr → Type 0

@@ -5,7 +5,7 @@ use Rattle.c_type.specs.Types.{CType, num, void, ptr, arr, enum, fun, same_type}
 use Rattle.c_type.specs.declared.Kind.TheVariants.{Int}
 use Rattle.c_tree.specs.TreeExpr as u
 use Rattle.c_tree.specs.TreeExpr.{TypeSpec, TypeName}
-use Rattle.c_tree.specs.RuleScope.{Judged, Is, Fails, onward, provided, Env, Meaning, Alias, meaning_of, known, tag_from, is_sized}
+use Rattle.c_rule.specs.RuleScope.{Judged, Is, Fails, onward, provided, Env, Meaning, Alias, meaning_of, known, tag_from, is_sized}
 
 abbrev pub is_void : CType → Bool
 is_void void = true

@@ -15,12 +15,12 @@ use Rattle.c_tree.specs.TStmt as st
 use Rattle.c_tree.specs.TStmt.{Declr}
 use Rattle.c_tree.specs.TUnit as t
 use Rattle.c_tree.specs.TUnit.{Spec, Item, ParDecl, Var, Func, TExt, TypedUnit, Own, Outside, Elsewhere, OwnFunction, OutsideFunction}
-use Rattle.c_tree.specs.RuleNames.{storage_of, types_of, tags_in, bodies_in, defined_in, tag_names}
-use Rattle.c_tree.specs.RuleScope.{Is, Env, Entry, Meaning, Alias, Thing, Function, in_scope, function_ref, same_bool, known, is_sized, started}
-use Rattle.c_tree.specs.RuleTypes.{is_function, spec_type, joined}
-use Rattle.c_tree.specs.RuleDecls.{past_declr, IsDeclr, Begins}
-use Rattle.c_tree.specs.RuleStmts.{is_free, is_static, missing, Place, AreDecls, AreStmts}
-use Rattle.c_tree.specs.RuleTags.{names_differ, AreTypes, IsDef, AreTypesOrInt, in_file}
+use Rattle.c_rule.specs.RuleNames.{storage_of, types_of, tags_in, bodies_in, defined_in, tag_names}
+use Rattle.c_rule.specs.RuleScope.{Is, Env, Entry, Meaning, Alias, Thing, Function, in_scope, function_ref, same_bool, known, is_sized, started}
+use Rattle.c_rule.specs.RuleTypes.{is_function, spec_type, joined}
+use Rattle.c_rule.specs.RuleDecls.{past_declr, IsDeclr, Begins}
+use Rattle.c_rule.specs.RuleStmts.{is_free, is_static, missing, Place, AreDecls, AreStmts}
+use Rattle.c_rule.specs.RuleTags.{names_differ, AreTypes, IsDef, AreTypesOrInt, in_file}
 
 -- declarations again
 

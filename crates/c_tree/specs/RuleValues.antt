@@ -6,7 +6,7 @@ use Rattle.c_type.specs.declared.Kind.TheVariants.{Int}
 use Rattle.c_type.specs.Types.{CType, num, ptr, arr, struct, union, enum, fun, Tag, same_type, is_integer, is_pointer}
 use Rattle.c_tree.specs.TExpr.{TExpr, Ref, Local, Param, Static, Ext, name, text, deref, index, member, arrow, convert, decay, designate, type_of}
 use Rattle.c_tree.specs.Constant.{is_zero}
-use Rattle.c_tree.specs.RuleScope.{Judged, Is, Fails, onward, provided, Env, known, is_sized}
+use Rattle.c_rule.specs.RuleScope.{Judged, Is, Fails, onward, provided, Env, known, is_sized}
 
 -- an expression of that type used as a value: an array and a function become pointers; a structure has no value, by rule 21
 abbrev pub used_as : CType → TExpr → Judged TExpr

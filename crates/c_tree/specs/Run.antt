@@ -8,15 +8,15 @@ use Rattle.c_type.specs.Sizes.{size, no_tag}
 use Rattle.c_type.specs.Kinds as k
 use Rattle.c_tree.specs.TStmt.{Init, Inits, single, bytes, group, no_inits, more_inits}
 use Rattle.c_tree.specs.TUnit.{Program}
-use Rattle.c_tree.specs.Lasting.{Lasting}
+use Rattle.c_run.specs.Lasting.{Lasting}
 use Rattle.c_tree.specs.Bodies.{body_named}
-use Rattle.c_tree.specs.Values.{Object, Static, Body, Value, Num, To, Ended}
-use Rattle.c_tree.specs.State.{State, Thing, Out, Gave, Halt, bind, Changes, Acts, acts_of}
-use Rattle.c_tree.specs.Context.{Context, Linked, linked, context_of, fresh}
-use Rattle.c_tree.specs.Pointers.{leaves, store}
-use Rattle.c_tree.specs.Exprs.{Call, value}
-use Rattle.c_tree.specs.Stmts.{Given}
-use Rattle.c_tree.specs.Calls.{rest, call_target}
+use Rattle.c_run.specs.Values.{Object, Static, Body, Value, Num, To, Ended}
+use Rattle.c_run.specs.State.{State, Thing, Out, Gave, Halt, bind, Changes, Acts, acts_of}
+use Rattle.c_run.specs.Context.{Context, Linked, linked, context_of, fresh}
+use Rattle.c_run.specs.Pointers.{leaves, store}
+use Rattle.c_run.specs.Exprs.{Call, value}
+use Rattle.c_run.specs.Stmts.{Given}
+use Rattle.c_run.specs.Calls.{rest, call_target}
 
 -- no call stands in an initialiser of static life
 abbrev pub no_call : Call

@@ -7,12 +7,12 @@ use Rattle.c_type.specs.Types.{CType}
 use Rattle.c_tree.specs.TExpr as e
 use Rattle.c_tree.specs.TStmt as st
 use Rattle.c_tree.specs.TStmt.{TStmt, TStmts, TItems, Local, locals}
-use Rattle.c_tree.specs.TUnit.{TExt, typedef, tag_only, object, func, Func, Var, Item, Bound, Own, TypedUnit, funcs_of}
-use Rattle.c_tree.specs.Lasting.{Lasting, Origin, OfUnit, OfName, OfText}
+use Rattle.c_tree.specs.TUnit.{TExt, typedef, tag_only, object, func, Func, Var, Item, Bound, Own, TypedUnit, funcs_of, no_unit}
+use Rattle.c_run.specs.Lasting.{Lasting, Origin, OfUnit, OfName, OfText}
 use Rattle.c_tree.specs.Starts.{starts, line_in}
-use Rattle.c_tree.specs.Values.{Object}
-use Rattle.c_tree.specs.State.{Act}
-use Rattle.c_tree.specs.Context.{Linked, context_of, object_of, no_unit}
+use Rattle.c_run.specs.Values.{Object}
+use Rattle.c_run.specs.State.{Act}
+use Rattle.c_run.specs.Context.{Linked, context_of, object_of}
 use Rattle.c_tree.specs.Bodies.{BodyAt}
 
 -- What a name stands for: what it is bound to, its type, and the unit whose tags the type names.

@@ -3,7 +3,7 @@
 use Rattle.std.specs.Prelude.{ℕ, suc, List, [], ◌∷◌, Option, Some, None, Bool, true, false, nat_eq, nat_lt, ◌&&◌, ◌||◌, slice_get, slice_set}
 use Rattle.c_type.specs.Names.{pick}
 use Rattle.c_type.specs.Types.{CType, same_type}
-use Rattle.c_tree.specs.Values.{Object, Static, Local, Value, Num, Null, To, Fn, same_value, suits, Stop, Stopped, Ill}
+use Rattle.c_run.specs.Values.{Object, Static, Local, Value, Num, Null, To, Fn, same_value, suits, Stop, Stopped, Ill}
 
 -- A cell with its value. Its type has the program's numbers for tags.
 pub record Slot : Type 0 where

@@ -4,11 +4,11 @@ use Rattle.std.specs.Prelude.{ℕ, ◌+◌, List, [], ◌∷◌, Option, Some, N
 use Rattle.c_type.specs.Types.{CType}
 use Rattle.c_tree.specs.TExpr.{TExpr}
 use Rattle.c_tree.specs.TStmt.{TStmt, expr, empty, if_only, if_else, while_, do_, for_, switch, break_, continue_, return_, block, TStmts, no_stmts, more_stmts, TItems, no_items, case_, default_, more_items, Local as Item, auto, auto_init, static_, extern_, function, locals}
-use Rattle.c_tree.specs.Values.{Local, Value, Num, To, is_true}
-use Rattle.c_tree.specs.State.{State, Out, Gave, bind, choose, Flow, Next, Broke, Continued, Returned, current, set_thing, Acts, begin}
-use Rattle.c_tree.specs.Context.{Context, Linked, fresh}
-use Rattle.c_tree.specs.Pointers.{leaves, store}
-use Rattle.c_tree.specs.Exprs.{Call, value}
+use Rattle.c_run.specs.Values.{Local, Value, Num, To, is_true}
+use Rattle.c_run.specs.State.{State, Out, Gave, bind, choose, Flow, Next, Broke, Continued, Returned, current, set_thing, Acts, begin}
+use Rattle.c_run.specs.Context.{Context, Linked, fresh}
+use Rattle.c_run.specs.Pointers.{leaves, store}
+use Rattle.c_run.specs.Exprs.{Call, value}
 
 -- what stays through a run: the stop number, what is done at each turn, the program
 pub record Given : Type 0 where

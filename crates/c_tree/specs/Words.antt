@@ -3,8 +3,8 @@ use Rattle.std.specs.Prelude.{ℕ, List, [], ◌∷◌, nat_eq, Option, Some, No
 use Rattle.c_type.specs.Names.{pick}
 use Rattle.c_type.specs.declared.TagKind.{TagKind}
 use Rattle.c_type.specs.declared.TagKind.TheVariants.{Struct, Union, Enum}
-use Rattle.c_type.specs.Tokens.{Token, Tok}
-use Rattle.c_type.specs.Tokens as k
+use Rattle.c_lex.specs.Tokens.{Token, Tok}
+use Rattle.c_lex.specs.Tokens as k
 use Rattle.c_tree.specs.declared.decl.Storage.{Storage}
 use Rattle.c_tree.specs.declared.decl.Storage.TheVariants.{Auto, Register, Static, Extern}
 use Rattle.c_tree.specs.TreeExpr.{AssignOp, BinaryOp, UnaryOp, StepOp}

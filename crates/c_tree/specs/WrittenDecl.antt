@@ -2,15 +2,15 @@
 use Rattle.std.specs.Prelude.{◌≡◌, ℕ, List, [], ◌∷◌, Bool, true, false, Option}
 use Rattle.c_type.specs.Names.{Name, or_default}
 use Rattle.c_type.specs.declared.TagKind.{TagKind}
-use Rattle.c_type.specs.Tokens.{Token}
-use Rattle.c_type.specs.Tokens as k
-use Rattle.c_tree.specs.Words.{Separated, listed, AreAll, spell_separated, tok, mark, word, storage_word, tag_word, register_word, semicolon}
+use Rattle.c_lex.specs.Tokens.{Token}
+use Rattle.c_lex.specs.Tokens as k
+use Rattle.c_grammar.specs.Words.{Separated, listed, AreAll, spell_separated, tok, mark, word, storage_word, tag_word, register_word, semicolon}
 use Rattle.c_tree.specs.TreeExpr as x
 use Rattle.c_tree.specs.TreeDecl.{Storage, TagSpec, ParDecl, LocalSpecs, LocalDecl}
 use Rattle.c_tree.specs.TreeDecl as t
-use Rattle.c_tree.specs.WrittenType.{TypePart, spelled, has_spelling, IsPart, part_line, spell_part}
-use Rattle.c_tree.specs.WrittenDeclr.{WrittenDeclr, WrittenItem, spell_if, plain_declr, IsDeclr, spell_declr, plain_item, IsItem, spell_item}
-use Rattle.c_tree.specs.WrittenSpecs.{Parts, WrittenDef, AreTypes, IsDef, first_line, def_line, plain_types, plain_def, is_some, is_type_or_none, first_of, spell_specs, spell_def}
+use Rattle.c_grammar.specs.WrittenType.{TypePart, spelled, has_spelling, IsPart, part_line, spell_part}
+use Rattle.c_grammar.specs.WrittenDeclr.{WrittenDeclr, WrittenItem, spell_if, plain_declr, IsDeclr, spell_declr, plain_item, IsItem, spell_item}
+use Rattle.c_grammar.specs.WrittenSpecs.{Parts, WrittenDef, AreTypes, IsDef, first_line, def_line, plain_types, plain_def, is_some, is_type_or_none, first_of, spell_specs, spell_def}
 
 -- ---- a tag alone
 

@@ -1,14 +1,14 @@
 -- From a declarator and an initialiser to their spellings.
 use Rattle.std.specs.Prelude.{◌≡◌, ℕ, List, [], ◌∷◌, Bool, true, false, Option, Some, None}
 use Rattle.c_type.specs.Names.{Name}
-use Rattle.c_type.specs.Tokens.{Token}
-use Rattle.c_type.specs.Tokens as k
-use Rattle.c_tree.specs.Words.{Separated, listed, AreAll, spell_separated, tok, mark, open_round, close_round, open_square, close_square, open_brace, close_brace, comma_mark, equals, star}
+use Rattle.c_lex.specs.Tokens.{Token}
+use Rattle.c_lex.specs.Tokens as k
+use Rattle.c_grammar.specs.Words.{Separated, listed, AreAll, spell_separated, tok, mark, open_round, close_round, open_square, close_square, open_brace, close_brace, comma_mark, equals, star}
 use Rattle.c_tree.specs.TreeDecl.{Declr, Init, Inits, Item}
 use Rattle.c_tree.specs.TreeDecl as t
-use Rattle.c_tree.specs.WrittenType.{is_typedef}
-use Rattle.c_tree.specs.WrittenExpr.{Written, IsAtLevel}
-use Rattle.c_tree.specs.WrittenExpr as w
+use Rattle.c_grammar.specs.WrittenType.{is_typedef}
+use Rattle.c_grammar.specs.WrittenExpr.{Written, IsAtLevel}
+use Rattle.c_grammar.specs.WrittenExpr as w
 
 -- a name with its line
 pub record Named : Type 0 where

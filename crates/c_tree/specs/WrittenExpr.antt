@@ -5,12 +5,12 @@
 -- the tokens and then those that follow.
 use Rattle.std.specs.Prelude.{◌≡◌, ℕ, ◌<◌, ◌≤◌, List, ◌∷◌, Bool, true, false}
 use Rattle.c_type.specs.Names.{Name}
-use Rattle.c_type.specs.Tokens.{Token}
-use Rattle.c_type.specs.Tokens as k
-use Rattle.c_tree.specs.Words.{tok, mark, word, sizeof_word, open_round, close_round, open_square, close_square, comma_mark, dot_mark, arrow_mark, question, colon, assign_mark, binary_mark, binary_level, unary_mark, step_mark}
+use Rattle.c_lex.specs.Tokens.{Token}
+use Rattle.c_lex.specs.Tokens as k
+use Rattle.c_grammar.specs.Words.{tok, mark, word, sizeof_word, open_round, close_round, open_square, close_square, comma_mark, dot_mark, arrow_mark, question, colon, assign_mark, binary_mark, binary_level, unary_mark, step_mark}
 use Rattle.c_tree.specs.TreeExpr.{AssignOp, BinaryOp, UnaryOp, StepOp, Expr, Exprs}
 use Rattle.c_tree.specs.TreeExpr as t
-use Rattle.c_tree.specs.WrittenType.{WrittenName, is_typedef, plain_name, IsName, spell_name}
+use Rattle.c_grammar.specs.WrittenType.{WrittenName, is_typedef, plain_name, IsName, spell_name}
 
 -- An expression with its brackets, the lines of its tokens being between its parts.
 mutual

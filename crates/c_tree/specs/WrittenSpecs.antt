@@ -2,18 +2,18 @@
 use Rattle.std.specs.Prelude.{◌≡◌, ℕ, zero, suc, List, [], ◌∷◌, length, Bool, true, false, Option, Some, None}
 use Rattle.c_type.specs.Names.{Name, or_else, or_default}
 use Rattle.c_type.specs.declared.TagKind.TheVariants.{Struct, Enum}
-use Rattle.c_type.specs.Tokens.{Token}
-use Rattle.c_type.specs.Tokens as k
+use Rattle.c_lex.specs.Tokens.{Token}
+use Rattle.c_lex.specs.Tokens as k
 use Rattle.c_tree.specs.declared.decl.Storage.TheVariants.{Auto, Register, Static, Extern}
-use Rattle.c_tree.specs.Words.{Separated, listed, AreAll, spell_separated, tok, mark, word, storage_word, tag_word, typedef_word, open_brace, close_brace, semicolon, equals}
+use Rattle.c_grammar.specs.Words.{Separated, listed, AreAll, spell_separated, tok, mark, word, storage_word, tag_word, typedef_word, open_brace, close_brace, semicolon, equals}
 use Rattle.c_tree.specs.TreeExpr.{Expr, TypeSpec}
 use Rattle.c_tree.specs.TreeExpr as x
 use Rattle.c_tree.specs.TreeDecl.{Storage, Types, TagDef, Mem, Mems, En, TagSpec, FileSpecs, LocalSpecs, ParDecl, LocalDecl}
 use Rattle.c_tree.specs.TreeDecl as t
-use Rattle.c_tree.specs.WrittenType.{TypePart, is_typedef, spelled, IsPart, part_line, spell_part}
-use Rattle.c_tree.specs.WrittenExpr.{Written, IsAtLevel}
-use Rattle.c_tree.specs.WrittenExpr as w
-use Rattle.c_tree.specs.WrittenDeclr.{Named, named, spell_named, WrittenDeclr, plain_if, IfThere, spell_if, plain_declr, IsDeclr, spell_declr}
+use Rattle.c_grammar.specs.WrittenType.{TypePart, is_typedef, spelled, IsPart, part_line, spell_part}
+use Rattle.c_grammar.specs.WrittenExpr.{Written, IsAtLevel}
+use Rattle.c_grammar.specs.WrittenExpr as w
+use Rattle.c_grammar.specs.WrittenDeclr.{Named, named, spell_named, WrittenDeclr, plain_if, IfThere, spell_if, plain_declr, IsDeclr, spell_declr}
 
 -- an expression with the line of the `=` before it
 pub record Value : Type 0 where

@@ -1,14 +1,14 @@
 -- From a statement to its spellings. The lines of a statement's tokens stand between its parts.
 use Rattle.std.specs.Prelude.{◌≡◌, ℕ, List, [], ◌∷◌, map, Bool, true, false, Option}
 use Rattle.c_type.specs.Names.{Name}
-use Rattle.c_type.specs.Tokens.{Token}
-use Rattle.c_tree.specs.Words.{mark, word, break_word, case_word, continue_word, default_word, do_word, else_word, for_word, if_word, return_word, switch_word, while_word, open_round, close_round, open_brace, close_brace, semicolon, colon}
+use Rattle.c_lex.specs.Tokens.{Token}
+use Rattle.c_grammar.specs.Words.{mark, word, break_word, case_word, continue_word, default_word, do_word, else_word, for_word, if_word, return_word, switch_word, while_word, open_round, close_round, open_brace, close_brace, semicolon, colon}
 use Rattle.c_tree.specs.TreeStmt.{Stmt, Stmts, SwItem, SwItems, Block}
 use Rattle.c_tree.specs.TreeStmt as t
-use Rattle.c_tree.specs.WrittenExpr.{Written, IsAtLevel}
-use Rattle.c_tree.specs.WrittenExpr as w
-use Rattle.c_tree.specs.WrittenDeclr.{plain_if, IfThere, spell_if}
-use Rattle.c_tree.specs.WrittenDecl.{WrittenLocal, plain_local, IsLocal, spell_local}
+use Rattle.c_grammar.specs.WrittenExpr.{Written, IsAtLevel}
+use Rattle.c_grammar.specs.WrittenExpr as w
+use Rattle.c_grammar.specs.WrittenDeclr.{plain_if, IfThere, spell_if}
+use Rattle.c_grammar.specs.WrittenDecl.{WrittenLocal, plain_local, IsLocal, spell_local}
 
 mutual
   pub data WrittenStmt : Type 0 where

@@ -4,9 +4,9 @@ use Rattle.c_type.specs.Names.{Name, same_name, pick}
 use Rattle.c_type.specs.declared.Kind.TheVariants as kinds
 use Rattle.c_type.specs.declared.TagKind.{TagKind}
 use Rattle.c_type.specs.declared.TagKind.TheVariants.{Struct, Union, Enum}
-use Rattle.c_type.specs.Tokens.{Token}
-use Rattle.c_type.specs.Tokens as k
-use Rattle.c_tree.specs.Words.{TypeWord, Unsigned, Char, Short, Long, Int, Void, type_word, tag_word, tok, mark, word, star}
+use Rattle.c_lex.specs.Tokens.{Token}
+use Rattle.c_lex.specs.Tokens as k
+use Rattle.c_grammar.specs.Words.{TypeWord, Unsigned, Char, Short, Long, Int, Void, type_word, tag_word, tok, mark, word, star}
 use Rattle.c_tree.specs.TreeExpr.{TypeName, TypeSpec}
 use Rattle.c_tree.specs.TreeExpr as t
 

@@ -1,15 +1,15 @@
 -- From a unit to its spellings.
 use Rattle.std.specs.Prelude.{ℕ, List, [], ◌∷◌, ◌++◌, map, Option, Some, None}
 use Rattle.c_type.specs.Names.{Name}
-use Rattle.c_type.specs.Tokens.{Token}
-use Rattle.c_tree.specs.Words.{Separated, listed, AreAll, spell_separated, mark, semicolon}
-use Rattle.c_tree.specs.TreeDecl.{FileSpecs}
+use Rattle.c_lex.specs.Tokens.{Token}
+use Rattle.c_grammar.specs.Words.{Separated, listed, AreAll, spell_separated, mark, semicolon}
+use Rattle.c_tree.specs.TreeDecl.{FileSpecs, declared}
 use Rattle.c_tree.specs.TreeUnit.{Ext, FuncHead}
 use Rattle.c_tree.specs.TreeUnit as t
-use Rattle.c_tree.specs.WrittenDeclr.{WrittenDeclr, WrittenItem, declared, declr_line, plain_declr, IsDeclr, IsHead, spell_declr, plain_item, IsItem, spell_item}
-use Rattle.c_tree.specs.WrittenSpecs.{Parts, no_parts, more_parts, AreSpecs, AreTypedef, first_line, plain_types, plain_specs, spell_specs}
-use Rattle.c_tree.specs.WrittenDecl.{WrittenTag, plain_tag, IsTag, tag_line, spell_tag, WrittenPar, plain_par, IsPar, spell_par}
-use Rattle.c_tree.specs.WrittenStmt.{WrittenBlock, plain_block, IsBlock, spell_block}
+use Rattle.c_grammar.specs.WrittenDeclr.{WrittenDeclr, WrittenItem, declr_line, plain_declr, IsDeclr, IsHead, spell_declr, plain_item, IsItem, spell_item}
+use Rattle.c_grammar.specs.WrittenSpecs.{Parts, no_parts, more_parts, AreSpecs, AreTypedef, first_line, plain_types, plain_specs, spell_specs}
+use Rattle.c_grammar.specs.WrittenDecl.{WrittenTag, plain_tag, IsTag, tag_line, spell_tag, WrittenPar, plain_par, IsPar, spell_par}
+use Rattle.c_grammar.specs.WrittenStmt.{WrittenBlock, plain_block, IsBlock, spell_block}
 
 -- The head of a function: its words, of which there may be none, its declarator and the declarations of its parameters.
 pub record WrittenHead : Type 0 where

@@ -6,7 +6,7 @@
 ghost use Rattle.std.specs.Prelude.{◌≡◌};
 ghost use Rattle.c_tree.specs.TreeExpr.{expr_line};
 ghost use Rattle.c_tree.specs.TreeOf.{expr_of};
-ghost use Rattle.c_tree.specs.Words.{assign_of, binary_level, binary_of, step_of, unary_of};
+ghost use Rattle.c_grammar.specs.Words.{assign_of, binary_level, binary_of, step_of, unary_of};
 
 use c_type::{Kind, TagKind};
 use num_le::Name;

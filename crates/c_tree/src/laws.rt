@@ -1,5 +1,6 @@
 // Laws of runs of the source machine, and of the typed trees.
-ghost use Rattle.c_tree.specs.Laws.{HasFuel, Halts, StopsAt, EndsAlike, FailsApart, FailsByNumber, OneTypedExpr, OneTypedUnit, TagsAreLaid};
+ghost use Rattle.c_run.specs.Laws.{HasFuel, Halts, StopsAt, EndsAlike};
+ghost use Rattle.c_rule.specs.Laws.{FailsApart, FailsByNumber, OneTypedExpr, OneTypedUnit, TagsAreLaid};
 
 /// A run with stop number n never wants for fuel: each call of a body and each round of a loop begins a turn.
 #[tactic(auto, using(crate::proofs::LaterRun::has_fuel))]

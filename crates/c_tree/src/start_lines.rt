@@ -2,20 +2,10 @@
 ghost use Rattle.std.specs.Prelude.{◌≡◌, ◌++◌, ◌<◌, length, IfOk, map};
 ghost use Rattle.std.specs.List.{flat_map};
 ghost use Rattle.c_type.specs.Names.{at_or};
-ghost use Rattle.c_tree.specs.Context.{no_unit};
+ghost use Rattle.c_tree.specs.TUnit.{no_unit};
 ghost use Rattle.c_tree.specs.Starts as s;
 ghost use Rattle.c_tree.specs.TStmt.{locals};
-ghost use Rattle.c_tree.specs.TypedOf.{
-  local_of,
-  local_decl_of,
-  stmt_of,
-  stmts_from,
-  item_of,
-  items_from,
-  func_of,
-  unit_of,
-  program_of,
-};
+ghost use Rattle.c_tree.specs.TypedOf.{local_of, local_decl_of, stmt_of, stmts_from, item_of, items_from, func_of, unit_of, program_of};
 
 use crate::typed_stmt::{TLocal, TLocalDecl, TStmt, TSwItem};
 use crate::typed_unit::{Program, TExt, TFunc};

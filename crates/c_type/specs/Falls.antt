@@ -1,9 +1,9 @@
 -- Which tokens a C text falls into, and its first bad place.
 -- It states docs/LANGUAGE.md, section Tokens.
 use Rattle.std.specs.Prelude.{◌≡◌, ◌⊎◌, ◌<◌, ℕ, ◌+◌, List, [], ◌∷◌, ◌++◌, Bool, true, false, ◌||◌, nat_eq, Option, Some, None}
-use Rattle.c_type.specs.Tokens.{Tok, Token, marks}
-use Rattle.c_type.specs.Bytes.{is_white, is_digit, is_run_byte, begins_name, are, begins, newlines}
-use Rattle.c_type.specs.Pieces.{Item, item_bytes, items_bytes, IsItem, AreItems, Number, number_bytes, number_value, IsNumber, suffix_bytes, IsSuffix, IsOpen, Piece, piece_bytes, IsPiece, token_of}
+use Rattle.c_lex.specs.Tokens.{Tok, Token, marks}
+use Rattle.c_lex.specs.Bytes.{is_white, is_digit, is_run_byte, begins_name, are, begins, newlines}
+use Rattle.c_lex.specs.Pieces.{Item, item_bytes, items_bytes, IsItem, AreItems, Number, number_bytes, number_value, IsNumber, suffix_bytes, IsSuffix, IsOpen, Piece, piece_bytes, IsPiece, token_of}
 
 -- the bytes of the pieces, and then the others
 abbrev pub spelled : List Piece → List ℕ → List ℕ

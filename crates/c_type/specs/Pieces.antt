@@ -2,9 +2,9 @@
 -- It states docs/LANGUAGE.md, section Tokens.
 use Rattle.std.specs.Prelude.{◌≡◌, ◌⊎◌, ◌<◌, ◌≤◌, ℕ, ◌%◌, ◌+◌, List, [], ◌∷◌, ◌++◌, length, map, Bool, true, false, Option, Some, None, nat_eq}
 use Rattle.c_type.specs.Names.{at_or, pick, same_name}
-use Rattle.c_type.specs.Tokens.{Tok, Token, int, word, words, marks}
-use Rattle.c_type.specs.Tokens as t
-use Rattle.c_type.specs.Bytes.{is_white, is_digit, is_octal, is_hexadecimal, is_between, begins_name, is_name_byte, is_run_byte, are, begins, value_from}
+use Rattle.c_lex.specs.Tokens.{Tok, Token, int, word, words, marks}
+use Rattle.c_lex.specs.Tokens as t
+use Rattle.c_lex.specs.Bytes.{is_white, is_digit, is_octal, is_hexadecimal, is_between, begins_name, is_name_byte, is_run_byte, are, begins, value_from}
 
 -- What stands for one byte between quotes: the byte, a backslash and a byte, or a backslash and octal digits.
 pub data Item : Type 0 where

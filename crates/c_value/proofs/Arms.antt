@@ -11,12 +11,12 @@ use Rattle.c_tree.specs.declared.expr.BinaryOp.{BinaryOp}
 use Rattle.c_tree.specs.declared.expr.UnaryOp.{UnaryOp}
 use Rattle.c_tree.specs.declared.expr.StepOp.{StepOp}
 use Rattle.c_tree.specs.TreeOf as u
-use Rattle.c_tree.specs.RuleExprs as r
-use Rattle.c_tree.specs.RuleScope.{Judged, Is, onward, Env, met, past}
-use Rattle.c_tree.specs.RuleTexts.{texts_in}
-use Rattle.c_tree.specs.RuleTypes.{cast_type}
+use Rattle.c_rule.specs.RuleExprs as r
+use Rattle.c_rule.specs.RuleScope.{Judged, Is, onward, Env, met, past}
+use Rattle.c_rule.specs.RuleTexts.{texts_in}
+use Rattle.c_rule.specs.RuleTypes.{cast_type}
 use Rattle.c_scope.specs.declared.error.TypeErr.{TypeErr}
-use Rattle.c_scope.specs.Judging.{judged_expr}
+use Rattle.c_rule.specs.Judging.{judged_expr}
 use Rattle.c_scope.specs.Says.{Refused, Says}
 use Rattle.c_value.specs.Boxed.{boxed}
 use Rattle.c_value.proofs.Outcomes.{onward_refused, one_says, two_says, second_refused, three_says, third_refused, met_on, met_none, on_ok}

@@ -9,11 +9,11 @@ use Rattle.c_tree.specs.TExpr.{TExpr}
 use Rattle.c_tree.specs.TreeExpr as t
 use Rattle.c_tree.specs.TreeExpr.{Expr, Exprs}
 use Rattle.c_tree.specs.TreeOf as u
-use Rattle.c_tree.specs.RuleExprs as r
-use Rattle.c_tree.specs.RuleScope.{Judged, Is, onward, Env, met, past, meaning_of}
-use Rattle.c_tree.specs.RuleTexts.{texts_in, texts_in_all}
+use Rattle.c_rule.specs.RuleExprs as r
+use Rattle.c_rule.specs.RuleScope.{Judged, Is, onward, Env, met, past, meaning_of}
+use Rattle.c_rule.specs.RuleTexts.{texts_in, texts_in_all}
 use Rattle.c_scope.specs.declared.error.TypeErr.{TypeErr}
-use Rattle.c_scope.specs.Judging.{judged_expr, judged_args}
+use Rattle.c_rule.specs.Judging.{judged_expr, judged_args}
 use Rattle.c_scope.specs.Says.{Refused, Says}
 use Rattle.c_value.specs.Boxed.{boxed}
 use Rattle.c_value.specs.Arguments.{name_in, judged_call}

@@ -14,13 +14,13 @@ use Rattle.c_tree.specs.TreeExpr as t
 use Rattle.c_tree.specs.TreeExpr.{Expr, Exprs, more_exprs}
 use Rattle.c_tree.specs.TreeOf as u
 use Rattle.c_tree.specs.TypedOf.{expr_of, args_of}
-use Rattle.c_tree.specs.RuleExprs as r
-use Rattle.c_tree.specs.RuleScope.{Judged, Is, Fails, onward, Env, met, past}
-use Rattle.c_tree.specs.RuleTexts.{texts_in, texts_in_all}
-use Rattle.c_tree.specs.RuleValues.{scalar}
+use Rattle.c_rule.specs.RuleExprs as r
+use Rattle.c_rule.specs.RuleScope.{Judged, Is, Fails, onward, Env, met, past}
+use Rattle.c_rule.specs.RuleTexts.{texts_in, texts_in_all}
+use Rattle.c_rule.specs.RuleValues.{scalar}
 use Rattle.c_scope.specs.declared.error.TypeErr.{TypeErr}
 use Rattle.c_scope.specs.declared.error.TypeErr.TheVariants.{Rule, Memory}
-use Rattle.c_scope.specs.Judging.{judged_expr, judged_args, judged_called}
+use Rattle.c_rule.specs.Judging.{judged_expr, judged_args, judged_called}
 use Rattle.c_value.specs.Arguments.{name_in, before, args_from, judged_call}
 use Rattle.c_scope.specs.Says.{Refused, Says}
 use Rattle.c_value.specs.Boxed.{boxed}

@@ -5,9 +5,9 @@ use Rattle.c_tree.specs.declared.typed_expr.TExpr.{TExpr}
 use Rattle.c_tree.specs.TExpr as e
 use Rattle.c_tree.specs.TreeExpr.{Expr, Exprs, name}
 use Rattle.c_tree.specs.TypedOf.{expr_of}
-use Rattle.c_tree.specs.RuleScope.{Judged, Is, onward, Env}
-use Rattle.c_tree.specs.RuleExprs as r
-use Rattle.c_scope.specs.Judging.{judged_args}
+use Rattle.c_rule.specs.RuleScope.{Judged, Is, onward, Env}
+use Rattle.c_rule.specs.RuleExprs as r
+use Rattle.c_rule.specs.Judging.{judged_args}
 
 -- a name with its line
 abbrev pub name_in : Expr → Option (ℕ × Name)

@@ -4,8 +4,8 @@ use Rattle.c_type.specs.Names.{Name, at_or}
 use Rattle.c_type.specs.Of.{type_of}
 use Rattle.c_type.specs.Types.{CType, ptr, struct}
 use Rattle.c_type.specs.Sizes.{no_tag}
-use Rattle.c_tree.specs.RuleScope.{Judged, Is, Fails, provided, Env, known, is_sized}
-use Rattle.c_tree.specs.RuleExprs.{member_from}
+use Rattle.c_rule.specs.RuleScope.{Judged, Is, Fails, provided, Env, known, is_sized}
+use Rattle.c_rule.specs.RuleExprs.{member_from}
 use Rattle.c_value.specs.declared.postfix.Held.{Held}
 
 abbrev pub held : Held → ℕ × CType

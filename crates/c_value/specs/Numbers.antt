@@ -1,5 +1,5 @@
 -- The constants that values of the code stand for.
-use Rattle.c_tree.specs.RuleDecls as r
+use Rattle.c_rule.specs.RuleDecls as r
 use Rattle.c_value.specs.Boxed.{boxed}
 use Rattle.c_value.specs.declared.constants.Number.{Number}
 

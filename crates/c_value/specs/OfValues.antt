@@ -7,10 +7,10 @@ use Rattle.c_tree.specs.TExpr as e
 use Rattle.c_tree.specs.TExpr.{TExpr, type_of}
 use Rattle.c_tree.specs.declared.TBinary.{TBinary}
 use Rattle.c_tree.specs.declared.TBinary.TheVariants.{Add, Sub}
-use Rattle.c_tree.specs.RuleScope.{Judged, Is, Fails, onward, provided, Env}
-use Rattle.c_tree.specs.RuleTypes.{is_void}
-use Rattle.c_tree.specs.RuleValues.{used, taken, meeting, to_type, widen, is_object_pointer, target_is_sized, are_alike, are_integers, is_with_zero}
-use Rattle.c_tree.specs.RuleExprs.{met, compared, pointer_and_integer}
+use Rattle.c_rule.specs.RuleScope.{Judged, Is, Fails, onward, provided, Env}
+use Rattle.c_rule.specs.RuleTypes.{is_void}
+use Rattle.c_rule.specs.RuleValues.{used, taken, meeting, to_type, widen, is_object_pointer, target_is_sized, are_alike, are_integers, is_with_zero}
+use Rattle.c_rule.specs.RuleExprs.{met, compared, pointer_and_integer}
 
 -- an integer on the left moves a pointer
 abbrev pub integer_and_pointer : Env → TExpr → TExpr → Judged TExpr

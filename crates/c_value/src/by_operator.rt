@@ -1,7 +1,7 @@
 // The rule of each operator.
 ghost use Rattle.std.specs.Prelude.{◌≡◌};
 ghost use Rattle.c_type.specs.Of.{tags_of};
-ghost use Rattle.c_tree.specs.RuleExprs as r;
+ghost use Rattle.c_rule.specs.RuleExprs as r;
 ghost use Rattle.c_scope.specs.Closed.{closed};
 ghost use Rattle.c_scope.specs.Says.{Says};
 ghost use Rattle.c_value.specs.Boxed.{boxed};

@@ -1,7 +1,7 @@
 // The rules on what is known before a run: constants, dimensions, first values.
 ghost use Rattle.std.specs.Prelude.{◌≡◌};
 ghost use Rattle.c_type.specs.Of.{type_of as type_lem, tags_of};
-ghost use Rattle.c_tree.specs.RuleDecls as r;
+ghost use Rattle.c_rule.specs.RuleDecls as r;
 ghost use Rattle.c_constant.specs.Views.{told};
 ghost use Rattle.c_scope.specs.Closed.{closed};
 ghost use Rattle.c_scope.specs.Says.{Says};

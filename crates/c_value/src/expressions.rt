@@ -5,12 +5,12 @@ ghost use Rattle.c_type.specs.Types.{arr, num};
 ghost use Rattle.c_tree.specs.TExpr as e;
 ghost use Rattle.c_tree.specs.TypedOf.{expr_of};
 ghost use Rattle.c_tree.specs.TreeOf as u;
-ghost use Rattle.c_tree.specs.RuleExprs as r;
-ghost use Rattle.c_tree.specs.RuleScope.{Is, met, past};
-ghost use Rattle.c_tree.specs.RuleTexts.{texts_in_all};
+ghost use Rattle.c_rule.specs.RuleExprs as r;
+ghost use Rattle.c_rule.specs.RuleScope.{Is, met, past};
+ghost use Rattle.c_rule.specs.RuleTexts.{texts_in_all};
 ghost use Rattle.c_value.specs.Arguments.{args_from, judged_call, name_in};
 ghost use Rattle.c_scope.specs.EnvOf.{env_of};
-ghost use Rattle.c_scope.specs.Judging.{judged_expr};
+ghost use Rattle.c_rule.specs.Judging.{judged_expr};
 ghost use Rattle.c_scope.specs.Says.{Says};
 ghost use Rattle.c_value.specs.Boxed.{boxed};
 

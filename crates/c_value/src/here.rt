@@ -1,8 +1,8 @@
 // The rules on expressions where they stand. Each takes the parts first, so that they are judged first.
 ghost use Rattle.c_type.specs.Of.{type_of};
-ghost use Rattle.c_tree.specs.RuleExprs as r;
-ghost use Rattle.c_tree.specs.RuleScope.{Is, onward};
-ghost use Rattle.c_tree.specs.RuleTypes.{sized_type as sized_type_rule};
+ghost use Rattle.c_rule.specs.RuleExprs as r;
+ghost use Rattle.c_rule.specs.RuleScope.{Is, onward};
+ghost use Rattle.c_rule.specs.RuleTypes.{sized_type as sized_type_rule};
 ghost use Rattle.c_tree.specs.TExpr as e;
 ghost use Rattle.c_tree.specs.TreeOf.{type_name_of};
 ghost use Rattle.c_scope.specs.EnvOf.{env_of};

@@ -2,11 +2,11 @@
 ghost use Rattle.std.specs.Prelude.{◌≡◌, OnOk};
 ghost use Rattle.c_type.specs.Of.{type_of};
 ghost use Rattle.c_tree.specs.TreeOf as u;
-ghost use Rattle.c_tree.specs.RuleDecls as d;
-ghost use Rattle.c_tree.specs.RuleScope.{past, past_option};
-ghost use Rattle.c_tree.specs.RuleValues as v;
+ghost use Rattle.c_rule.specs.RuleDecls as d;
+ghost use Rattle.c_rule.specs.RuleScope.{past, past_option};
+ghost use Rattle.c_rule.specs.RuleValues as v;
 ghost use Rattle.c_scope.specs.EnvOf.{env_of};
-ghost use Rattle.c_scope.specs.Judging.{judged_by, judged_option};
+ghost use Rattle.c_rule.specs.Judging.{judged_by, judged_option};
 ghost use Rattle.c_value.specs.Boxed.{boxed, boxed_option};
 ghost use Rattle.c_value.specs.Numbers.{number_of};
 ghost use Rattle.c_scope.specs.Says.{Says};

@@ -6,7 +6,7 @@ ghost use Rattle.c_type.specs.Of.{type_of as type_lem, tags_of, members_of};
 ghost use Rattle.c_type.specs.Sizes.{no_tag};
 ghost use Rattle.c_tree.specs.TExpr as e;
 ghost use Rattle.c_tree.specs.TypedOf.{expr_of};
-ghost use Rattle.c_tree.specs.RuleExprs as r;
+ghost use Rattle.c_rule.specs.RuleExprs as r;
 ghost use Rattle.c_scope.specs.Closed.{closed};
 ghost use Rattle.c_scope.specs.Says.{Says};
 ghost use Rattle.c_value.specs.Boxed.{boxed};

@@ -2,7 +2,7 @@
 ghost use Rattle.std.specs.Prelude.{◌≡◌, IfOk};
 ghost use Rattle.c_type.specs.Of.{type_of as type_lem, tags_of};
 ghost use Rattle.c_type.specs.Types as t;
-ghost use Rattle.c_tree.specs.RuleValues as v;
+ghost use Rattle.c_rule.specs.RuleValues as v;
 ghost use Rattle.c_tree.specs.TExpr as e;
 ghost use Rattle.c_tree.specs.TypedOf.{expr_of};
 ghost use Rattle.c_scope.specs.Closed.{closed};

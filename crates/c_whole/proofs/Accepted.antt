@@ -1,8 +1,8 @@
 -- What the numbers and the first refusal say of the units.
 use Rattle.std.proofs.Common.{◌≡◌, ℕ, List, Bool, Option, Some, None, IfSome, sym, ap, subst, ◌∙◌}
 use Rattle.c_tree.specs.TUnit.{TypedUnit}
-use Rattle.c_tree.specs.JoinChecks as s
-use Rattle.c_tree.specs.JoinChecks.{same_class, refusal, IsRefused}
+use Rattle.c_join.specs.JoinChecks as s
+use Rattle.c_join.specs.JoinChecks.{same_class, refusal, IsRefused}
 use Rattle.c_whole.specs.Classes.{IsNumbered}
 use Rattle.c_whole.specs.Refusals.{IsAccepted}
 

@@ -2,7 +2,7 @@
 use Rattle.std.proofs.Common.{◌≡◌, ◌<◌, ℕ, suc, ◌+◌, List, ◌∷◌, length, drop, slice_index_or, Bool, true, false, ◌||◌, sym, ap, ◌∙◌, add-one}
 use Rattle.std.specs.List.{list_any}
 use Rattle.std.proofs.Math.Seq.{drop-cons}
-use Rattle.c_tree.specs.JoinSaid.{Fact}
+use Rattle.c_join.specs.JoinSaid.{Fact}
 use Rattle.c_whole.specs.Facts.{fact_of, facts_of}
 use Rattle.c_whole.specs.declared.facts.Fact as cf
 

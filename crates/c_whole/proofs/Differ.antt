@@ -4,9 +4,9 @@ use Rattle.std.specs.List.{list_any, filter_map, cons_option}
 use Rattle.std.proofs.lemmas.Bool.{eqb-true}
 use Rattle.c_type.specs.Names.{pick}
 use Rattle.c_type.specs.Types.{CType, arr}
-use Rattle.c_tree.specs.JoinSaid.{Fact}
-use Rattle.c_tree.specs.JoinTypes.{Relation, TypeIn, agree_by, between, same_dimension, declare_alike}
-use Rattle.c_tree.specs.JoinChecks.{differ, some_differ, type_in}
+use Rattle.c_join.specs.JoinSaid.{Fact}
+use Rattle.c_join.specs.JoinTypes.{Relation, TypeIn, agree_by, between, same_dimension, declare_alike}
+use Rattle.c_join.specs.JoinChecks.{differ, some_differ, type_in}
 use Rattle.c_whole.specs.Given.{is_open, both_of, with_fact, by_type, kept_on}
 use Rattle.c_whole.proofs.Replace.{Equates, agree_replace, both_true}
 

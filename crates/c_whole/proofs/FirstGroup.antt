@@ -2,7 +2,7 @@
 use Rattle.std.proofs.Common.{◌≡◌, ◌<◌, ℕ, suc, ◌+◌, List, ◌∷◌, length, drop, slice_index_or, Bool, true, false, Some, sym, ap, ◌∙◌, add-one}
 use Rattle.std.proofs.Math.Seq.{drop-cons}
 use Rattle.c_type.specs.Names.{pick}
-use Rattle.c_tree.specs.JoinSaid.{Subject, Fact}
+use Rattle.c_join.specs.JoinSaid.{Subject, Fact}
 use Rattle.c_whole.specs.Groups.{group_of, groups_of, first_group}
 use Rattle.c_whole.specs.declared.groups.Group as cg
 

@@ -6,7 +6,7 @@ use Rattle.c_tree.specs.declared.typed_unit.TParam.{TParam}
 use Rattle.c_tree.specs.TypedOf.{expr_of, var_of}
 use Rattle.c_tree.specs.TExpr as e
 use Rattle.c_tree.specs.Constant.{is_zero}
-use Rattle.c_tree.specs.JoinChecks.{fit, fits_kind, int_type}
+use Rattle.c_join.specs.JoinChecks.{fit, fits_kind, int_type}
 use Rattle.c_whole.specs.Events.{args_from}
 use Rattle.c_whole.specs.Given.{library_types}
 

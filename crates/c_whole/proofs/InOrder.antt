@@ -7,8 +7,8 @@ use Rattle.std.proofs.lemmas.Bool.{eqb-true, eq-eqb}
 use Rattle.std.proofs.lemmas.List.Elements.{filter-append}
 use Rattle.std.proofs.lemmas.Slice.Eq.{bytes_eq-Decides}
 use Rattle.c_type.specs.Names.{Name, same_name, pick, or_else}
-use Rattle.c_tree.specs.JoinSaid.{Subject, Fact}
-use Rattle.c_tree.specs.JoinChecks.{same_subject, about, first_with}
+use Rattle.c_join.specs.JoinSaid.{Subject, Fact}
+use Rattle.c_join.specs.JoinChecks.{same_subject, about, first_with}
 use Rattle.c_whole.specs.Groups.{Group, placed, grouped, first_group}
 use Rattle.c_whole.proofs.Replace.{both_true, and_true}
 

@@ -5,7 +5,7 @@ use Rattle.c_type.specs.Types.{CType, num, void, ptr, arr, struct, union, enum, 
 use Rattle.c_type.specs.Names.{same_name}
 use Rattle.c_type.specs.declared.Member.{Member}
 use Rattle.c_type.specs.Of.{type_of, members_of}
-use Rattle.c_tree.specs.JoinTypes.{agree_by, members_agree}
+use Rattle.c_join.specs.JoinTypes.{agree_by, members_agree}
 use Rattle.c_whole.specs.Types.{inside, leaf_agrees, depth}
 
 -- the parts decide, or the types themselves

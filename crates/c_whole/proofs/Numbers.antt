@@ -5,10 +5,9 @@ use Rattle.std.proofs.lemmas.Bool.{eqb-true, eq-eqb}
 use Rattle.std.proofs.lemmas.Slice.Eq.{bytes_eq-Decides}
 use Rattle.c_type.specs.Names.{Name, same_name, pick, at_or}
 use Rattle.c_type.specs.Types.{Tag}
-use Rattle.c_tree.specs.TUnit.{TypedUnit}
-use Rattle.c_tree.specs.Context.{no_unit}
-use Rattle.c_tree.specs.JoinTypes.{TagAt, at, Relation, tag_of, is_named, alike_where, between, IsClosed}
-use Rattle.c_tree.specs.JoinChecks.{class_of, same_class}
+use Rattle.c_tree.specs.TUnit.{TypedUnit, no_unit}
+use Rattle.c_join.specs.JoinTypes.{TagAt, at, Relation, tag_of, is_named, alike_where, between, IsClosed}
+use Rattle.c_join.specs.JoinChecks.{class_of, same_class}
 use Rattle.c_whole.specs.Types.{same_number}
 use Rattle.c_whole.specs.Classes.{alike_at, stays, row_stays, rows_stay, renumbered, renumbered_row, renumbered_rows, first_row, first_rows, IsNumbered, IsCoarse}
 use Rattle.c_whole.proofs.Replace.{both_true, where_turn, where_join, where_wider}

@@ -5,9 +5,9 @@ use Rattle.indexmap.specs.IndexSet.{insert_key}
 use Rattle.std.proofs.lemmas.List.{map-append}
 use Rattle.std.proofs.Math.Seq.{map-set_same}
 use Rattle.c_type.specs.Names.{pick}
-use Rattle.c_tree.specs.JoinSaid as j
-use Rattle.c_tree.specs.JoinSaid.{Fact}
-use Rattle.c_tree.specs.JoinChecks.{same_subject}
+use Rattle.c_join.specs.JoinSaid as j
+use Rattle.c_join.specs.JoinSaid.{Fact}
+use Rattle.c_join.specs.JoinChecks.{same_subject}
 use Rattle.c_whole.specs.Facts.{subject_of, fact_of, facts_of}
 use Rattle.c_whole.specs.Groups.{Group, group_of, groups_of, placed, same_name}
 use Rattle.c_whole.specs.declared.facts.Subject as cs

@@ -6,7 +6,7 @@ use Rattle.c_type.specs.Names.{Name, same_name}
 use Rattle.c_type.specs.Types.{CType, num, void, ptr, arr, struct, union, enum, fun, kind_code, Tag, Member}
 use Rattle.c_type.specs.declared.TagKind.{TagKind}
 use Rattle.c_type.specs.declared.TagKind.TheVariants.{Struct, Union, Enum}
-use Rattle.c_tree.specs.JoinTypes.{TagAt, at, Relation, agree_by, members_agree, is_named, same_kind, alike, alike_where, between}
+use Rattle.c_join.specs.JoinTypes.{TagAt, at, Relation, agree_by, members_agree, is_named, same_kind, alike, alike_where, between}
 
 pub both_true : (a b : Bool) → (a && b) ≡ true → (a ≡ true) × (b ≡ true)
 both_true true b h = (refl, h)

@@ -22,7 +22,7 @@ use Rattle.c_tree.specs.declared.typed_unit.TMembers.{TMembers}
 use Rattle.c_tree.specs.TStmt.{locals}
 use Rattle.c_tree.specs.TUnit as u
 use Rattle.c_tree.specs.TypedOf.{expr_of, args_of, init_of, inits_of, stmt_of, stmts_of, stmts_from, item_of, items_of, items_from, local_decl_of, declr_of, spec_of, mems_of}
-use Rattle.c_tree.specs.JoinSaid.{Event, in_expr, in_args, of_call, in_init, in_inits, in_local, in_stmt, in_stmts, in_items, in_spec, in_mems}
+use Rattle.c_join.specs.JoinSaid.{Event, in_expr, in_args, of_call, in_init, in_inits, in_local, in_stmt, in_stmts, in_items, in_spec, in_mems}
 use Rattle.c_whole.specs.Events.{args_from, inits_from, mems_from}
 
 args_are : (n : _) (row : x.TheBlock.Row_of-TExpr n) → args_of row ≡ args_from (x.items-the_row-TExpr n row)

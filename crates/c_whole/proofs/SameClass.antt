@@ -1,7 +1,7 @@
 -- Tags with one number are one: each can stand for the other.
 use Rattle.std.proofs.Common.{◌≡◌, ℕ, List, true, Option, Some, None, refl, sym, ap, ◌∙◌, true≢false}
 use Rattle.std.proofs.lemmas.Bool.{eqb-true, eq-eqb}
-use Rattle.c_tree.specs.JoinChecks.{class_of, same_class}
+use Rattle.c_join.specs.JoinChecks.{class_of, same_class}
 use Rattle.c_whole.specs.Types.{same_number}
 use Rattle.c_whole.proofs.Replace.{Equates}
 

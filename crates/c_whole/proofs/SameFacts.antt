@@ -3,7 +3,7 @@ use Rattle.std.proofs.Common.{◌≡◌, ℕ, List, Bool, map, not, ◌&&◌, �
 use Rattle.std.specs.List.{list_any}
 use Rattle.c_type.specs.Names.{Name}
 use Rattle.c_tree.specs.TUnit.{Func, TypedUnit, funcs_of}
-use Rattle.c_tree.specs.JoinSaid.{Event, fact, facts_in, events, declares_static, defines_static}
+use Rattle.c_join.specs.JoinSaid.{Event, fact, facts_in, events, declares_static, defines_static}
 
 pub same_facts : (u : ℕ) (t : TypedUnit) (fs : List Func) (vs : List Event) (declared defined : Name → Bool) → fs ≡ funcs_of t.exts → vs ≡ events t
     → ((x : Name) → declared x ≡ list_any (declares_static x) vs) → ((x : Name) → defined x ≡ list_any (defines_static x) vs)

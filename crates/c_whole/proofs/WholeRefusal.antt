@@ -2,9 +2,9 @@
 use Rattle.std.proofs.Common.{◌≡◌, List, Bool, Option, ap, ◌∙◌}
 use Rattle.c_type.specs.Names.{Name}
 use Rattle.c_tree.specs.TUnit.{TypedUnit}
-use Rattle.c_tree.specs.JoinSaid.{Subject, Fact, facts}
-use Rattle.c_tree.specs.JoinTypes.{Relation}
-use Rattle.c_tree.specs.JoinChecks as s
+use Rattle.c_join.specs.JoinSaid.{Subject, Fact, facts}
+use Rattle.c_join.specs.JoinTypes.{Relation}
+use Rattle.c_join.specs.JoinChecks as s
 use Rattle.c_whole.specs.Groups.{Group, grouped, first_group}
 use Rattle.c_whole.specs.Refusals.{in_order}
 use Rattle.c_whole.proofs.InOrder.{first_is}

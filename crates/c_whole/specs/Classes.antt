@@ -8,8 +8,8 @@ use Rattle.indexmap.specs.IndexMap.{IndexMap, get, get_by}
 use Rattle.c_type.specs.Names.{Name, pick}
 use Rattle.c_type.specs.Types.{Tag}
 use Rattle.c_tree.specs.TUnit.{TypedUnit}
-use Rattle.c_tree.specs.JoinTypes.{TagAt, at, tag_of, alike_where, between, is_named, Relation, IsClosed, IsWidest}
-use Rattle.c_tree.specs.JoinChecks.{same_class}
+use Rattle.c_join.specs.JoinTypes.{TagAt, at, tag_of, alike_where, between, is_named, Relation, IsClosed, IsWidest}
+use Rattle.c_join.specs.JoinChecks.{same_class}
 use Rattle.c_whole.specs.declared.classes.TagAt as d
 
 -- the tag that a value of the code stands for

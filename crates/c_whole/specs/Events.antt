@@ -13,7 +13,7 @@ use Rattle.c_tree.specs.TStmt as st
 use Rattle.c_tree.specs.TUnit as u
 use Rattle.c_tree.specs.TypedOf.{expr_of, declr_of, init_of, spec_of, var_of}
 use Rattle.c_type.specs.Types.{fun}
-use Rattle.c_tree.specs.JoinSaid as j
+use Rattle.c_join.specs.JoinSaid as j
 use Rattle.c_whole.specs.declared.said.Whose.{Whose}
 use Rattle.c_whole.specs.declared.said.Whose.TheVariants as w
 use Rattle.c_whole.specs.declared.said.Said.{Said}

@@ -5,7 +5,7 @@ use Rattle.c_type.specs.Names.{Name}
 use Rattle.c_tree.specs.declared.typed_unit.TFunc.{TFunc}
 use Rattle.c_tree.specs.TUnit.{Func}
 use Rattle.c_tree.specs.TypedOf.{func_of}
-use Rattle.c_tree.specs.JoinSaid as j
+use Rattle.c_join.specs.JoinSaid as j
 use Rattle.c_whole.specs.Events.{saying_of, has_name}
 use Rattle.c_whole.specs.declared.facts.Subject.{Subject}
 use Rattle.c_whole.specs.declared.facts.Fact.{Fact}

@@ -7,9 +7,9 @@ use Rattle.c_type.specs.declared.Kind.TheVariants.{Int}
 use Rattle.c_type.specs.Types.{CType, num, arr, fun}
 use Rattle.c_type.specs.Of.{type_of}
 use Rattle.c_tree.specs.TypedOf.{var_of}
-use Rattle.c_tree.specs.JoinSaid.{Fact}
-use Rattle.c_tree.specs.JoinTypes as t
-use Rattle.c_tree.specs.JoinChecks as s
+use Rattle.c_join.specs.JoinSaid.{Fact}
+use Rattle.c_join.specs.JoinTypes as t
+use Rattle.c_join.specs.JoinChecks as s
 use Rattle.c_whole.specs.declared.given.Given.{Given}
 use Rattle.c_whole.specs.declared.given.Given.TheVariants as g
 use Rattle.c_whole.specs.declared.given.TypeIn.{TypeIn}

@@ -1,8 +1,8 @@
 -- Facts by the names that they are about.
 use Rattle.std.specs.Prelude.{List, [], ◌∷◌, ◌++◌, map, fold, Bool, Option, Some, None}
 use Rattle.c_type.specs.Names.{Name, pick}
-use Rattle.c_tree.specs.JoinSaid.{Subject, Fact}
-use Rattle.c_tree.specs.JoinChecks.{same_subject}
+use Rattle.c_join.specs.JoinSaid.{Subject, Fact}
+use Rattle.c_join.specs.JoinChecks.{same_subject}
 use Rattle.c_whole.specs.Facts.{subject_of, facts_of}
 use Rattle.c_whole.specs.declared.facts.Subject as c
 use Rattle.c_whole.specs.declared.groups.Group as d

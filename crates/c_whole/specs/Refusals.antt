@@ -3,8 +3,8 @@ use Rattle.std.specs.Prelude.{◌≡◌, ℕ, List, Bool, not, ◌&&◌, Option,
 use Rattle.std.specs.Option.{option_map}
 use Rattle.c_type.specs.Names.{Name, pick, or_else}
 use Rattle.c_tree.specs.TUnit.{TypedUnit}
-use Rattle.c_tree.specs.JoinChecks as s
-use Rattle.c_tree.specs.JoinChecks.{same_class, refusal}
+use Rattle.c_join.specs.JoinChecks as s
+use Rattle.c_join.specs.JoinChecks.{same_class, refusal}
 use Rattle.c_whole.specs.Classes.{IsNumbered}
 use Rattle.c_whole.specs.declared.refusals.Refusal.{Refusal}
 use Rattle.c_whole.specs.declared.refusals.Refusal.TheVariants as r

@@ -2,8 +2,8 @@
 use Rattle.std.specs.Prelude.{ℕ, suc, List, map, Bool, true, false, Option, Some, None, nat_eq, ◌&&◌}
 use Rattle.c_type.specs.Names.{pick, same_name}
 use Rattle.c_type.specs.Types.{CType, num, void, ptr, arr, struct, union, enum, fun, kind_code, Member}
-use Rattle.c_tree.specs.JoinTypes.{between, agree_by}
-use Rattle.c_tree.specs.JoinChecks.{same_class}
+use Rattle.c_join.specs.JoinTypes.{between, agree_by}
+use Rattle.c_join.specs.JoinChecks.{same_class}
 use Rattle.c_whole.specs.declared.types.Classes.{Classes}
 use Rattle.c_whole.specs.declared.types.Between.{Between}
 

@@ -2,7 +2,7 @@
 ghost use Rattle.std.specs.Prelude.{◌≡◌, List, ℕ, Bool, Option};
 ghost use Rattle.std.specs.List.{list_any};
 ghost use Rattle.std.specs.Option.{option_map};
-ghost use Rattle.c_tree.specs.JoinChecks as s;
+ghost use Rattle.c_join.specs.JoinChecks as s;
 ghost use Rattle.c_whole.specs.Events.{saying_of};
 ghost use Rattle.c_whole.specs.Facts.{subject_of, facts_of};
 ghost use Rattle.c_whole.specs.Groups.{group_of};

@@ -5,7 +5,7 @@
 ghost use Rattle.std.specs.Prelude.{◌≡◌, ◌+◌, length, IfOk, OnOk, map};
 ghost use Rattle.std.specs.Option.{option_map};
 ghost use Rattle.c_type.specs.Of.{tag_of as tag_lem, tags_of};
-ghost use Rattle.c_tree.specs.JoinTypes as t;
+ghost use Rattle.c_join.specs.JoinTypes as t;
 ghost use Rattle.c_tree.specs.TypedOf.{unit_of};
 ghost use Rattle.c_whole.specs.Types.{classes_of};
 ghost use Rattle.c_whole.specs.Classes as spec;

@@ -2,7 +2,7 @@
 ghost use Rattle.std.specs.Prelude.{◌≡◌, ◌++◌, ◌&&◌, List, ℕ, Bool, not, IfOk, OnOk, map};
 ghost use Rattle.std.specs.List.{list_any};
 ghost use Rattle.c_type.specs.Names.{pick};
-ghost use Rattle.c_tree.specs.JoinSaid as s;
+ghost use Rattle.c_join.specs.JoinSaid as s;
 ghost use Rattle.c_tree.specs.TUnit.{funcs_of};
 ghost use Rattle.c_tree.specs.TypedOf.{ext_of, unit_of};
 ghost use Rattle.c_whole.specs.Events.{events_of, whose_of, has_name};

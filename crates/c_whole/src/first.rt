@@ -1,7 +1,7 @@
 // The first name that a check refuses.
 ghost use Rattle.std.specs.Prelude.{◌≡◌, map};
 ghost use Rattle.std.specs.Option.{option_map};
-ghost use Rattle.c_tree.specs.JoinChecks as s;
+ghost use Rattle.c_join.specs.JoinChecks as s;
 ghost use Rattle.c_tree.specs.TypedOf.{unit_of};
 ghost use Rattle.c_whole.specs.Groups.{groups_of, first_group};
 ghost use Rattle.c_whole.specs.Types.{classes_of};

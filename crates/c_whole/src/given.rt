@@ -2,8 +2,8 @@
 ghost use Rattle.std.specs.Prelude.{◌≡◌, ◌++◌, Option};
 ghost use Rattle.std.specs.List.{filter_map};
 ghost use Rattle.std.specs.Option.{option_map};
-ghost use Rattle.c_tree.specs.JoinTypes as t;
-ghost use Rattle.c_tree.specs.JoinChecks as s;
+ghost use Rattle.c_join.specs.JoinTypes as t;
+ghost use Rattle.c_join.specs.JoinChecks as s;
 ghost use Rattle.c_whole.specs.Events.{saying_of};
 ghost use Rattle.c_whole.specs.Facts.{subject_of, fact_of, facts_of};
 ghost use Rattle.c_whole.specs.Groups.{group_of};

@@ -2,7 +2,7 @@
 ghost use Rattle.std.specs.Prelude.{◌≡◌, IfOk, OnOk, map};
 ghost use Rattle.std.specs.List.{position_or_len};
 ghost use Rattle.indexmap.specs.IndexSet.{insert_key};
-ghost use Rattle.c_tree.specs.JoinChecks.{same_subject};
+ghost use Rattle.c_join.specs.JoinChecks.{same_subject};
 ghost use Rattle.c_whole.specs.Facts.{subject_of, fact_of, facts_of};
 ghost use Rattle.c_whole.specs.Groups.{same_name, groups_of, placed, grouped};
 

@@ -2,7 +2,7 @@
 ghost use Rattle.std.specs.Prelude.{◌≡◌, ◌++◌, IfOk, map};
 ghost use Rattle.std.specs.List.{flat_map};
 ghost use Rattle.c_type.specs.Of.{type_of};
-ghost use Rattle.c_tree.specs.JoinSaid as s;
+ghost use Rattle.c_join.specs.JoinSaid as s;
 ghost use Rattle.c_tree.specs.TypedOf.{ref_of, expr_of, option_of, declr_of, init_of, begin_of};
 ghost use Rattle.c_whole.specs.Events.{events_of, args_from, inits_from};
 

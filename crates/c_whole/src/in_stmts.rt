@@ -1,7 +1,7 @@
 // What blocks and statements say.
 ghost use Rattle.std.specs.Prelude.{◌≡◌, ◌++◌, ◌∷◌, IfOk, map};
 ghost use Rattle.std.specs.List.{flat_map};
-ghost use Rattle.c_tree.specs.JoinSaid as s;
+ghost use Rattle.c_join.specs.JoinSaid as s;
 ghost use Rattle.c_tree.specs.TStmt.{locals};
 ghost use Rattle.c_tree.specs.TypedOf.{declr_of, local_of, local_decl_of, stmt_of, stmts_from, items_from};
 ghost use Rattle.c_whole.specs.Events.{events_of, whose_of};

@@ -2,7 +2,7 @@
 ghost use Rattle.std.specs.Prelude.{◌≡◌, ◌++◌, IfOk, map, option_map, option_to_list};
 ghost use Rattle.c_type.specs.Of.{type_of};
 ghost use Rattle.std.specs.List.{flat_map};
-ghost use Rattle.c_tree.specs.JoinSaid as s;
+ghost use Rattle.c_join.specs.JoinSaid as s;
 ghost use Rattle.c_tree.specs.TypedOf.{begin_of, enumerator_of, spec_of, typed_item_of, par_of, func_of, ext_of, unit_of};
 ghost use Rattle.c_whole.specs.Events.{events_of, mems_from, event_of};
 

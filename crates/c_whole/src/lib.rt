@@ -3,7 +3,7 @@
 
 ghost use Rattle.std.specs.Prelude.{true, false, map, IfOk, IfErr, IfSome};
 ghost use Rattle.c_tree.specs.TypedOf.{unit_of, program_of};
-ghost use Rattle.c_tree.specs.JoinChecks.{IsJoined, IsRefused};
+ghost use Rattle.c_join.specs.JoinChecks.{IsJoined, IsRefused};
 ghost use Rattle.c_whole.specs.Refusals.{told_as};
 
 mod args;

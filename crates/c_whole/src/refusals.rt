@@ -1,8 +1,8 @@
 // Why the units of a program don't make one.
 ghost use Rattle.std.specs.Prelude.{◌≡◌, map, Some, IfOk, IfSome, IfErr};
 ghost use Rattle.std.specs.Option.{option_map};
-ghost use Rattle.c_tree.specs.JoinSaid.{facts as facts_lem};
-ghost use Rattle.c_tree.specs.JoinChecks as s;
+ghost use Rattle.c_join.specs.JoinSaid.{facts as facts_lem};
+ghost use Rattle.c_join.specs.JoinChecks as s;
 ghost use Rattle.c_tree.specs.TypedOf.{unit_of};
 ghost use Rattle.c_whole.specs.Facts.{facts_of};
 ghost use Rattle.c_whole.specs.Groups.{groups_of, grouped};

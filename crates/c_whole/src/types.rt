@@ -2,8 +2,8 @@
 ghost use Rattle.std.specs.Prelude.{◌≡◌, ℕ, List, Bool, length};
 ghost use Rattle.std.specs.Option.{option_map};
 ghost use Rattle.c_type.specs.Of.{type_of, tag_of, member_of, members_of};
-ghost use Rattle.c_tree.specs.JoinTypes as s;
-ghost use Rattle.c_tree.specs.JoinChecks.{class_of, same_class};
+ghost use Rattle.c_join.specs.JoinTypes as s;
+ghost use Rattle.c_join.specs.JoinChecks.{class_of, same_class};
 ghost use Rattle.c_whole.specs.Types.{classes_of, by_classes, inside, leaf_agrees, member_agrees};
 
 use c_type::{CType, Member, Tag, TagId};

@@ -8,10 +8,10 @@ use Rattle.c_type.specs.Names.{pick}
 use Rattle.c_type.specs.Types.{CType, same_type}
 use Rattle.c_type.specs.Sizes.{size}
 use Rattle.mach_mem.specs.Space.{Space, byte_at}
-use Rattle.c_tree.specs.Values.{Object, Static, Local, Value, same_object, suits}
-use Rattle.c_tree.specs.State.{State, Act, Made, Thing, thing, set_chain, set_thing, put_cell, read_slot, write_slot}
-use Rattle.c_tree.specs.Context.{Linked}
-use Rattle.c_tree.specs.Place.{place}
+use Rattle.c_run.specs.Values.{Object, Static, Local, Value, same_object, suits}
+use Rattle.c_run.specs.State.{State, Act, Made, Thing, thing, set_chain, set_thing, put_cell, read_slot, write_slot}
+use Rattle.c_run.specs.Context.{Linked}
+use Rattle.c_run.specs.Place.{place}
 use Rattle.gen_small.specs.Items.{Layout}
 use Rattle.gen_small.specs.Spelled.{bytes, Tells}
 use Rattle.gen_small.specs.Code.{locals_size, temp_depth}

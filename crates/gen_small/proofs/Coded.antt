@@ -5,7 +5,7 @@ use Rattle.std.specs.List.{flat_map}
 use Rattle.isa386.specs.Encoding.{encoding}
 use Rattle.isa386.specs.Row.{IsRow, IsOperand}
 use Rattle.isa_dec.proofs.Numbers.{word_fits}
-use Rattle.c_tree.specs.Values.{Target, Body}
+use Rattle.c_run.specs.Values.{Target, Body}
 use Rattle.c_tree.specs.TExpr.{Local, TExpr, name, int, convert, binary, assign, call, no_args, more_args}
 use Rattle.c_tree.specs.TStmt.{Local as Declarator, auto, locals, TStmt, TStmts, expr, while_, return_, block, no_stmts, more_stmts}
 use Rattle.c_tree.specs.declared.TBinary.{TBinary}
@@ -16,8 +16,8 @@ use Rattle.isa386.specs.declared.Way.{Way}
 use Rattle.isa386.specs.declared.Way.TheVariants.{ToOperand, ToRegister}
 use Rattle.isa386.specs.declared.Ins.TheVariants.{Move}
 use Rattle.c_tree.specs.Bodies.{BodyAt, autos}
-use Rattle.c_tree.specs.Context.{Linked}
-use Rattle.c_tree.specs.Calls.{frame_of}
+use Rattle.c_run.specs.Context.{Linked}
+use Rattle.c_run.specs.Calls.{frame_of}
 use Rattle.c_type.specs.Names.{pick}
 use Rattle.gen_small.specs.Laid.{is_label, is_start}
 use Rattle.gen_small.specs.Code.{Site, inside, below, locals_size, local_depth, temp_depth, load_from, store_to, operator, put_code, target_of, is_putchar, expr_code, tested, again, stmt_code, stmts_code, zero_code, entered, closed}

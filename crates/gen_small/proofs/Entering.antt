@@ -10,11 +10,11 @@ use Rattle.c_type.specs.Types.{CType, num}
 use Rattle.c_type.specs.Sizes.{size, up_to}
 use Rattle.mach_mem.specs.Space.{Space, byte_at}
 use Rattle.c_tree.specs.Bodies.{BodyAt, Auto, autos}
-use Rattle.c_tree.specs.Values.{Object, Static, Local, Value, Num, Null, To, Fn, same_object}
-use Rattle.c_tree.specs.State.{State, Made, Thing, Slot, thing}
-use Rattle.c_tree.specs.Context.{Linked, Context, context, fresh, fresh_all}
-use Rattle.c_tree.specs.Calls.{no_made, rounded}
-use Rattle.c_tree.specs.Place.{place, made_place}
+use Rattle.c_run.specs.Values.{Object, Static, Local, Value, Num, Null, To, Fn, same_object}
+use Rattle.c_run.specs.State.{State, Made, Thing, Slot, thing}
+use Rattle.c_run.specs.Context.{Linked, Context, context, fresh, fresh_all}
+use Rattle.c_run.specs.Calls.{no_made, rounded}
+use Rattle.c_run.specs.Place.{place, made_place}
 use Rattle.gen_small.specs.Items.{Layout}
 use Rattle.gen_small.specs.Spelled.{bytes, Tells}
 use Rattle.gen_small.specs.Mains.{AllInt}

@@ -12,13 +12,13 @@ use Rattle.mach_mem.specs.Space.{Space, byte_at, with_number, number_at}
 use Rattle.isa386.specs.declared.Way.TheVariants.{ToOperand, ToRegister}
 use Rattle.isa386.specs.declared.Ins.TheVariants.{Move}
 use Rattle.c_tree.specs.Bodies.{autos}
-use Rattle.c_tree.specs.Values as v
-use Rattle.c_tree.specs.Values.{Object, Value, Num, Null, To, Fn, Stop, suits, converted, number_as, kept_as}
-use Rattle.c_tree.specs.State.{State, Act, Made, Thing, Out, choose, current, thing, set_chain, read_slot, write_slot}
-use Rattle.c_tree.specs.Context.{Linked, context}
-use Rattle.c_tree.specs.Pointers.{given_or, read_thing, write_cell, write_thing, leaves}
-use Rattle.c_tree.specs.Calls.{no_made, rounded}
-use Rattle.c_tree.specs.Place.{place, made_place, local_place}
+use Rattle.c_run.specs.Values as v
+use Rattle.c_run.specs.Values.{Object, Value, Num, Null, To, Fn, Stop, suits, converted, number_as, kept_as}
+use Rattle.c_run.specs.State.{State, Act, Made, Thing, Out, choose, current, thing, set_chain, read_slot, write_slot}
+use Rattle.c_run.specs.Context.{Linked, context}
+use Rattle.c_run.specs.Pointers.{given_or, read_thing, write_cell, write_thing, leaves}
+use Rattle.c_run.specs.Calls.{no_made, rounded}
+use Rattle.c_run.specs.Place.{place, made_place, local_place}
 use Rattle.gen_small.specs.Ghost.{Regs, Flags, M, Prog}
 use Rattle.gen_small.specs.Items.{Item, Op, Layout, Stands}
 use Rattle.gen_small.specs.Spelled.{bytes, Tells}

@@ -11,14 +11,15 @@ use Rattle.isa386.specs.declared.Ins.TheVariants.{MoveImm}
 use Rattle.c_tree.specs.declared.TBinary.{TBinary}
 use Rattle.c_tree.specs.declared.TBinary.TheVariants.{Add, Sub}
 use Rattle.c_tree.specs.TExpr.{Local, Outer, TExpr, name, int, convert, binary, assign, call, no_args, more_args, type_of}
-use Rattle.c_tree.specs.Values as v
-use Rattle.c_tree.specs.Values.{Value, Num, Null, To, Fn, Putchar, Stop, NoFuel, Stack, suits, converted}
+use Rattle.c_run.specs.Values as v
+use Rattle.c_run.specs.Values.{Value, Num, Null, To, Fn, Putchar, Stop, NoFuel, Stack, suits, converted}
 use Rattle.c_tree.specs.Constant.{is_zero}
-use Rattle.c_tree.specs.State.{State, Act, Made, Acts, Out, Gave, Halt, bind, choose, current}
-use Rattle.c_tree.specs.Context.{Linked, putchar_name, outer, shared}
-use Rattle.c_tree.specs.Pointers.{store}
-use Rattle.c_tree.specs.Exprs.{Arg, Call, value, args, as_function, value_of, operate}
-use Rattle.c_tree.specs.Calls.{stack_base, library, int_var, put_byte, first_number, next_base, no_made, frame, frame_at}
+use Rattle.c_run.specs.State.{State, Act, Made, Acts, Out, Gave, Halt, bind, choose, current}
+use Rattle.c_run.specs.Context.{Linked, outer, shared}
+use Rattle.c_tree.specs.Library.{putchar_name}
+use Rattle.c_run.specs.Pointers.{store}
+use Rattle.c_run.specs.Exprs.{Arg, Call, value, args, as_function, value_of, operate}
+use Rattle.c_run.specs.Calls.{stack_base, library, int_var, put_byte, first_number, next_base, no_made, frame, frame_at}
 use Rattle.gen_small.specs.Ghost.{Regs, M, Prog}
 use Rattle.gen_small.specs.Items.{Item, Layout, Stands, last_start}
 use Rattle.gen_small.specs.Code.{Site, inside, named, load_from, store_to, operator, put_code, target_of, is_putchar, expr_code, temps}

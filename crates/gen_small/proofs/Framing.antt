@@ -14,8 +14,8 @@ use Rattle.isa386.specs.declared.Callee.TheVariants.{Relative}
 use Rattle.isa386.specs.declared.Ins.TheVariants.{Move, MoveImm, Lea, Stack, ArithImm, Call, Str}
 use Rattle.mach_exec.specs.Word.{add32, sub32}
 use Rattle.mach_exec.specs.Strings.{filled}
-use Rattle.c_tree.specs.State.{State}
-use Rattle.c_tree.specs.Context.{Linked}
+use Rattle.c_run.specs.State.{State}
+use Rattle.c_run.specs.Context.{Linked}
 use Rattle.gen_small.specs.Ghost.{Regs, M, Prog}
 use Rattle.gen_small.specs.Items.{Op, Layout, Stays, Stands}
 use Rattle.gen_small.specs.Spelled.{bytes, Tells}

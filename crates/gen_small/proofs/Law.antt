@@ -1,7 +1,7 @@
 -- The laws of the small form's code hold.
 use Rattle.gen_small.specs.Reaches.{run_of}
 use Rattle.gen_small.specs.Laws.{GhostsCanGo, ExpressionsReach, StatementsReach, MainsReach}
-use Rattle.c_tree.specs.Calls.{rest}
+use Rattle.c_run.specs.Calls.{rest}
 use Rattle.gen_small.proofs.Reach.{without_ghosts}
 use Rattle.gen_small.proofs.ExprsRun.{expr_runs}
 use Rattle.gen_small.proofs.Stmts.{puts_byte, loops_on, stmts_run}

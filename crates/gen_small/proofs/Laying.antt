@@ -4,7 +4,7 @@ use Rattle.std.specs.Prelude.{nat_eq, nat_lt, if◌then◌else◌}
 use Rattle.std.proofs.lemmas.Bool.{eqb-true, le-ltb, lt-ltb}
 use Rattle.isa386.specs.Encoding.{encoding}
 use Rattle.isa386.specs.Row.{IsRow}
-use Rattle.c_tree.specs.Values.{Target, Body, Putchar, Getchar, Exit, same_target}
+use Rattle.c_run.specs.Values.{Target, Body, Putchar, Getchar, Exit, same_target}
 use Rattle.gen_small.specs.Ghost.{Prog}
 use Rattle.gen_small.specs.Items.{Name, Entry, Close, Top, End, Inside, Item, Start, Open, Op, Label, Goto, If, CallTo, Layout}
 use Rattle.gen_small.specs.Emitted.{width, Marked}

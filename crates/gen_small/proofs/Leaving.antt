@@ -7,8 +7,8 @@ use Rattle.isa386.specs.declared.StackOp.TheVariants.{Push, PushImm}
 use Rattle.isa386.specs.declared.PlainOp.TheVariants.{Ret, Leave}
 use Rattle.isa386.specs.declared.Ins.TheVariants.{MoveImm, Stack, Plain, Lcall}
 use Rattle.mach_exec.specs.Word.{add32, sub32}
-use Rattle.c_tree.specs.State.{State, Act}
-use Rattle.c_tree.specs.Context.{Linked}
+use Rattle.c_run.specs.State.{State, Act}
+use Rattle.c_run.specs.Context.{Linked}
 use Rattle.gen_small.specs.Ghost.{Regs, M, Prog}
 use Rattle.gen_small.specs.Items.{Op, Layout, Stands}
 use Rattle.gen_small.specs.Spelled.{bytes, Tells}

@@ -11,13 +11,13 @@ use Rattle.isa386.specs.declared.PlainOp.TheVariants.{Ret, Leave}
 use Rattle.isa386.specs.declared.Ins.TheVariants.{MoveImm, Stack, Plain, Lcall}
 use Rattle.c_tree.specs.TStmt.{Local, auto, auto_init, static_, extern_, function, locals}
 use Rattle.c_tree.specs.Bodies.{BodyAt, autos}
-use Rattle.c_tree.specs.Values.{Value, Num, Stack, zero_of}
-use Rattle.c_tree.specs.State.{State, Act, Made, Acts, Out, Gave, Halt, Flow, Next, Broke, Continued, Returned, bind, choose}
-use Rattle.c_tree.specs.Context.{Linked, Context, context, fresh_all}
-use Rattle.c_tree.specs.Pointers.{leaves}
-use Rattle.c_tree.specs.Stmts.{Given as Run, Rest, turn, inits, stmts}
-use Rattle.c_tree.specs.Calls.{stack_base, main_base, frame_of, next_base, fit, all_suit, params, entered, left, result, body, enter, call_body, rest}
-use Rattle.c_tree.specs.Run.{ended, call_main}
+use Rattle.c_run.specs.Values.{Value, Num, Stack, zero_of}
+use Rattle.c_run.specs.State.{State, Act, Made, Acts, Out, Gave, Halt, Flow, Next, Broke, Continued, Returned, bind, choose}
+use Rattle.c_run.specs.Context.{Linked, Context, context, fresh_all}
+use Rattle.c_run.specs.Pointers.{leaves}
+use Rattle.c_run.specs.Stmts.{Given as Run, Rest, turn, inits, stmts}
+use Rattle.c_run.specs.Calls.{stack_base, main_base, frame_of, next_base, fit, all_suit, params, entered, left, result, body, enter, call_body, rest}
+use Rattle.c_run.specs.Run.{ended, call_main}
 use Rattle.gen_small.specs.Ghost.{Regs, M, Prog, made_at}
 use Rattle.gen_small.specs.Items.{Item, Start, Open, Op, Label, Layout, Stands, Close, last_start}
 use Rattle.gen_small.specs.Code.{Site, locals_size, stmts_code, zero_code, func_code, start_code}

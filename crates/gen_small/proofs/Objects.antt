@@ -8,9 +8,9 @@ use Rattle.c_type.specs.declared.Kind.TheVariants.{Char, UChar, Short, UShort, I
 use Rattle.c_type.specs.Kinds.{kind_size}
 use Rattle.c_type.specs.Types.{CType, num, void, ptr, arr, struct, union, enum, fun, same_type, kind_code}
 use Rattle.c_type.specs.Sizes.{size, capped}
-use Rattle.c_tree.specs.Values.{Object, Static, Local, Value, Num, Null, To, Fn, same_object, suits}
-use Rattle.c_tree.specs.State.{State, Act, Made, Thing, Slot, thing, in_chain, set_chain, set_thing, slot_is, read_slot, write_slot}
-use Rattle.c_tree.specs.Context.{Linked}
+use Rattle.c_run.specs.Values.{Object, Static, Local, Value, Num, Null, To, Fn, same_object, suits}
+use Rattle.c_run.specs.State.{State, Act, Made, Thing, Slot, thing, in_chain, set_chain, set_thing, slot_is, read_slot, write_slot}
+use Rattle.c_run.specs.Context.{Linked}
 use Rattle.gen_small.specs.Items.{Layout}
 use Rattle.gen_small.specs.Spelled.{bytes, Tells}
 use Rattle.gen_small.specs.Agree.{spell, IsVal, Cells, Sorted}

@@ -18,7 +18,7 @@ use Rattle.gen_small.specs.Items.{Item, Op}
 use Rattle.gen_small.specs.Code.{Site, below, temp_depth, kept, joined, put_code, is_putchar, expr_code, temps}
 use Rattle.gen_small.specs.Small.{IsSum, IsPutchar, IsSmall}
 use Rattle.c_type.specs.Names.{pick, same_name}
-use Rattle.c_tree.specs.Context.{putchar_name}
+use Rattle.c_tree.specs.Library.{putchar_name}
 use Rattle.gen_small.specs.declared.code_list.IntFrame.{IntFrame}
 use Rattle.gen_small.specs.Listed.{int_site}
 use Rattle.gen_small.specs.Forms.{AreThere}

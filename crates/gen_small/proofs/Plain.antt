@@ -1,11 +1,12 @@
 -- Runs at whose turns nothing is done, and how many instructions they take.
 use Rattle.std.proofs.Common.{◌≡◌, ℕ, zero, suc, ◌+◌, ◌-◌, ◌*◌, ◌<◌, ◌≤◌, List, [], Bool, true, false, Some, sym, ap, ◌∙◌, subst, arith}
 use Rattle.mach_mem.specs.Space.{Space}
-use Rattle.c_tree.specs.Values.{Value, Ended, Stopped}
-use Rattle.c_tree.specs.State.{State, Made, Out, Gave, Halt, bind, acts_of, no_changes}
-use Rattle.c_tree.specs.Context.{Linked}
+use Rattle.c_run.specs.Values.{Value, Ended, Stopped}
+use Rattle.c_run.specs.State.{State, Made, Out, Gave, Halt, bind, acts_of, no_changes}
+use Rattle.c_run.specs.Context.{Linked}
 use Rattle.c_tree.specs.Bodies.{BodyAt, body_named}
-use Rattle.c_tree.specs.Run.{main_name, first_state, call_main, run_linked}
+use Rattle.c_tree.specs.Library.{main_name}
+use Rattle.c_run.specs.Run.{first_state, call_main, run_linked}
 use Rattle.mach_exec.specs.Process.{advanced}
 use Rattle.gen_small.specs.Ghost.{M, process, Prog, arrive, Moves, Path}
 use Rattle.gen_small.specs.Items.{Layout, Stands}

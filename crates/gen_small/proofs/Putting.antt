@@ -17,9 +17,9 @@ use Rattle.isa386.specs.declared.Ins.TheVariants.{Move, MoveImm, Stack, ArithImm
 use Rattle.mach_exec.specs.Word.{add32, sub32}
 use Rattle.mach_exec.specs.Effect.{done}
 use Rattle.mach_exec.specs.Execute.{executed}
-use Rattle.c_tree.specs.State.{State}
-use Rattle.c_tree.specs.Context.{Linked}
-use Rattle.c_tree.specs.Calls.{put_byte}
+use Rattle.c_run.specs.State.{State}
+use Rattle.c_run.specs.Context.{Linked}
+use Rattle.c_run.specs.Calls.{put_byte}
 use Rattle.gen_small.specs.Ghost.{Regs, Flags, cpu_of, M, Prog}
 use Rattle.gen_small.specs.Items.{Op, Layout, Stays, Stands}
 use Rattle.gen_small.specs.Spelled.{bytes, Tells}

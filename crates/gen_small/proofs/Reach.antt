@@ -8,8 +8,8 @@ use Rattle.isa_dec.specs.Decoded.{decoded}
 use Rattle.mach_exec.specs.Effect.{done}
 use Rattle.mach_exec.specs.Execute.{executed}
 use Rattle.mach_exec.specs.Step.{decided, stepped}
-use Rattle.c_tree.specs.Values.{Stop}
-use Rattle.c_tree.specs.State.{State, Out, Gave, Halt, bind}
+use Rattle.c_run.specs.Values.{Stop}
+use Rattle.c_run.specs.State.{State, Out, Gave, Halt, bind}
 use Rattle.mach_exec.specs.Process.{Goes, advanced, after, and_on, ran}
 use Rattle.gen_small.specs.Ghost.{Regs, Flags, M, cpu_of, process, Prog, arrive, arrived, made_at, Moves, Path}
 pub use Rattle.gen_small.specs.Reaches.{Comes, Reach}

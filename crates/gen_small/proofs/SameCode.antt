@@ -10,7 +10,7 @@ use Rattle.c_tree.specs.TExpr.{Local, TExpr, name, int, convert, binary, assign,
 use Rattle.c_tree.specs.TStmt.{TStmt, TStmts, expr, while_, return_, block, no_stmts, more_stmts, locals}
 use Rattle.c_tree.specs.TUnit.{Func}
 use Rattle.c_tree.specs.Bodies.{autos_local, autos_stmt, autos_stmts, autos}
-use Rattle.c_tree.specs.Context.{Linked}
+use Rattle.c_run.specs.Context.{Linked}
 use Rattle.gen_small.specs.declared.code_list.IntFrame.{IntFrame}
 use Rattle.gen_small.specs.Items.{Close, Top, Item, Start, Open, Op, Label, Goto}
 use Rattle.gen_small.specs.Code.{Site, inside, below, locals_size, local_depth, temp_depth, load_from, store_to, operator, kept, joined, put_code, target_of, is_putchar, expr_code, tested, again, stmt_code, stmts_code, zero_code, entered, closed, func_code}

@@ -12,13 +12,13 @@ use Rattle.isa386.specs.declared.Ins.TheVariants.{Test, Jump, Branch}
 use Rattle.mach_exec.specs.Word.{add32}
 use Rattle.c_tree.specs.TExpr.{TExpr}
 use Rattle.c_tree.specs.TStmt.{TStmt, TStmts, expr, while_, return_, block, no_stmts, more_stmts}
-use Rattle.c_tree.specs.Values.{Value, Num, is_true}
-use Rattle.c_tree.specs.State.{State, Made, Acts, Out, Gave, Flow, Next, Broke, Continued, Returned, bind, choose}
-use Rattle.c_tree.specs.Context.{Linked}
-use Rattle.c_tree.specs.Exprs.{value}
-use Rattle.c_tree.specs.Stmts as src
-use Rattle.c_tree.specs.Stmts.{Rest, turn, after, around, next, while_round}
-use Rattle.c_tree.specs.Calls.{rest}
+use Rattle.c_run.specs.Values.{Value, Num, is_true}
+use Rattle.c_run.specs.State.{State, Made, Acts, Out, Gave, Flow, Next, Broke, Continued, Returned, bind, choose}
+use Rattle.c_run.specs.Context.{Linked}
+use Rattle.c_run.specs.Exprs.{value}
+use Rattle.c_run.specs.Stmts as src
+use Rattle.c_run.specs.Stmts.{Rest, turn, after, around, next, while_round}
+use Rattle.c_run.specs.Calls.{rest}
 use Rattle.gen_small.specs.Ghost.{M, Prog}
 use Rattle.gen_small.specs.Items.{Item, Op, Label, Goto, If, Layout, Stays, Stands, Top, End, Close, last_start}
 use Rattle.gen_small.specs.Code.{inside, expr_code, stmt_code, stmts_code}

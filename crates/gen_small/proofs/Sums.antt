@@ -15,10 +15,10 @@ use Rattle.mach_exec.specs.Execute.{executed}
 use Rattle.c_tree.specs.Arith.{add32, sub32}
 use Rattle.c_tree.specs.declared.TBinary.{TBinary}
 use Rattle.c_tree.specs.declared.TBinary.TheVariants.{Add, Sub}
-use Rattle.c_tree.specs.Values.{Value, Num, Null, To, Fn, suits}
-use Rattle.c_tree.specs.State.{State, Made, Out, Gave, bind}
-use Rattle.c_tree.specs.Context.{Linked}
-use Rattle.c_tree.specs.Exprs.{numbers}
+use Rattle.c_run.specs.Values.{Value, Num, Null, To, Fn, suits}
+use Rattle.c_run.specs.State.{State, Made, Out, Gave, bind}
+use Rattle.c_run.specs.Context.{Linked}
+use Rattle.c_run.specs.Exprs.{numbers}
 use Rattle.gen_small.specs.Ghost.{Regs, Flags, cpu_of, M, Prog}
 use Rattle.gen_small.specs.Items.{Item, Op, Layout, Stays, Stands, last_start}
 use Rattle.gen_small.specs.Spelled.{bytes}

@@ -2,10 +2,10 @@
 use Rattle.std.proofs.Common.{◌≡◌, ℕ, suc, ◌<◌, List, [], ◌∷◌, Bool, true, false, Option, refl, sym, ap, ◌∙◌, subst}
 use Rattle.std.specs.Prelude.{nat_lt}
 use Rattle.mach_mem.specs.Space.{Space, byte_at}
-use Rattle.c_tree.specs.Values.{Object, Static, Local}
-use Rattle.c_tree.specs.State.{State, Act, Made, Acts, Out, Gave, Halt, bind, stop_if, at_start, begun, thing}
-use Rattle.c_tree.specs.Context.{Linked}
-use Rattle.c_tree.specs.Stmts.{turn}
+use Rattle.c_run.specs.Values.{Object, Static, Local}
+use Rattle.c_run.specs.State.{State, Act, Made, Acts, Out, Gave, Halt, bind, stop_if, at_start, begun, thing}
+use Rattle.c_run.specs.Context.{Linked}
+use Rattle.c_run.specs.Stmts.{turn}
 use Rattle.gen_small.specs.Ghost.{Regs, M, Prog, arrive, made_at}
 use Rattle.gen_small.specs.Items.{Layout, Begins}
 use Rattle.gen_small.specs.Agree.{Ghost, Frames, Agree, Agrees}

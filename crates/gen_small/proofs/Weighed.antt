@@ -10,7 +10,7 @@ use Rattle.c_tree.specs.TStmt.{TStmt, TStmts, expr, while_, return_, block, no_s
 use Rattle.c_tree.specs.declared.TBinary.{TBinary}
 use Rattle.c_tree.specs.declared.TBinary.TheVariants.{Add, Sub}
 use Rattle.c_tree.specs.Bodies.{BodyAt, autos}
-use Rattle.c_tree.specs.Context.{Linked}
+use Rattle.c_run.specs.Context.{Linked}
 use Rattle.gen_small.specs.Items.{Close, Item, Open, Op, Goto}
 use Rattle.gen_small.specs.Emitted.{width, end_of}
 use Rattle.gen_small.specs.Code.{Site, below, temp_depth, load_from, store_to, operator, put_code, target_of, is_putchar, expr_code, tested, again, stmt_code, stmts_code, zero_code, closed, locals_size}

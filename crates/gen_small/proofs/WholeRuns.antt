@@ -4,10 +4,10 @@ use Rattle.std.specs.Prelude.{if◌then◌else◌, slice_get}
 use Rattle.mach_mem.specs.Addresses.{text_start, stack_end}
 use Rattle.mach_mem.specs.Space.{Space, IsInitial}
 use Rattle.c_tree.specs.Bodies.{BodyAt}
-use Rattle.c_tree.specs.Context.{Linked}
-use Rattle.c_tree.specs.Values.{Object, Static, Local, Num}
-use Rattle.c_tree.specs.State.{Thing, Gave, thing}
-use Rattle.c_tree.specs.Run.{zero_statics, begin_statics, blank, first_state}
+use Rattle.c_run.specs.Context.{Linked}
+use Rattle.c_run.specs.Values.{Object, Static, Local, Num}
+use Rattle.c_run.specs.State.{Thing, Gave, thing}
+use Rattle.c_run.specs.Run.{zero_statics, begin_statics, blank, first_state}
 use Rattle.gen_small.specs.Ghost.{M, Prog}
 use Rattle.gen_small.specs.Items.{Item, Layout, Stands}
 use Rattle.gen_small.specs.Emitted.{width, end_of}

@@ -4,11 +4,11 @@ use Rattle.mach_mem.specs.Addresses.{stack_start, stack_end, stack_room}
 use Rattle.c_type.specs.Names.{at_or}
 use Rattle.c_type.specs.Sizes.{size}
 use Rattle.mach_mem.specs.Space.{Space, byte_at, is_writable}
-use Rattle.c_tree.specs.Values.{Object, Static, Local, Value, Num, Null, To, Fn, same_object, suits}
-use Rattle.c_tree.specs.State.{State, Act, Made, Thing, Slot, thing}
-use Rattle.c_tree.specs.Context.{Linked}
-use Rattle.c_tree.specs.Calls.{no_made}
-use Rattle.c_tree.specs.Place.{place}
+use Rattle.c_run.specs.Values.{Object, Static, Local, Value, Num, Null, To, Fn, same_object, suits}
+use Rattle.c_run.specs.State.{State, Act, Made, Thing, Slot, thing}
+use Rattle.c_run.specs.Context.{Linked}
+use Rattle.c_run.specs.Calls.{no_made}
+use Rattle.c_run.specs.Place.{place}
 use Rattle.gen_small.specs.Items.{Layout, Entry}
 use Rattle.gen_small.specs.Ghost.{M}
 use Rattle.gen_small.specs.Spelled.{bytes, Tells}

@@ -19,9 +19,10 @@ use Rattle.c_tree.specs.declared.TBinary.{TBinary}
 use Rattle.c_tree.specs.declared.TBinary.TheVariants.{Add, Sub}
 use Rattle.c_tree.specs.TStmt.{TStmt, TStmts, expr, while_, return_, block, no_stmts, more_stmts}
 use Rattle.c_tree.specs.Bodies.{BodyAt, autos}
-use Rattle.c_tree.specs.Values.{Body}
-use Rattle.c_tree.specs.Context.{Linked, Context, context, putchar_name}
-use Rattle.c_tree.specs.Calls.{rounded, frame_of}
+use Rattle.c_run.specs.Values.{Body}
+use Rattle.c_run.specs.Context.{Linked, Context, context}
+use Rattle.c_tree.specs.Library.{putchar_name}
+use Rattle.c_run.specs.Calls.{rounded, frame_of}
 use Rattle.mach_exec.specs.Registers.{eax, ecx, esp, ebp, edi}
 use Rattle.gen_small.specs.Items.{Item, Start, Open, Op, Label, Goto, If, CallTo, Entry, Close, Top, End}
 

@@ -5,8 +5,8 @@ use Rattle.c_type.specs.Types.{num}
 use Rattle.mach_mem.specs.Space.{Space}
 use Rattle.c_tree.specs.TExpr.{TExpr}
 use Rattle.c_tree.specs.TStmt.{TStmt, TStmts, expr, while_, return_, block, no_stmts, more_stmts}
-use Rattle.c_tree.specs.State.{State, Made, Acts, Out, Gave, Halt, Flow, Next, Broke, Continued, Returned}
-use Rattle.c_tree.specs.Context.{Linked}
+use Rattle.c_run.specs.State.{State, Made, Acts, Out, Gave, Halt, Flow, Next, Broke, Continued, Returned}
+use Rattle.c_run.specs.Context.{Linked}
 use Rattle.gen_small.specs.Ghost.{M, Prog}
 use Rattle.gen_small.specs.Items.{Layout, Close}
 use Rattle.gen_small.specs.Code.{temps}

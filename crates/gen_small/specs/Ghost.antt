@@ -2,7 +2,7 @@
 use Rattle.std.specs.Prelude.{ℕ, zero, suc, ◌≡◌, ◌<◌, List, [], ◌∷◌, ◌++◌, Bool, true, false, Option, Some, None}
 use Rattle.mach_mem.specs.Space.{Space}
 use Rattle.mach_exec.specs.declared.Cpu.{Cpu}
-use Rattle.c_tree.specs.State.{Made}
+use Rattle.c_run.specs.State.{Made}
 use Rattle.mach_exec.specs.Process.{Process, Goes, advanced}
 
 -- the registers by their names

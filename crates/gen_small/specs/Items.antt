@@ -11,7 +11,7 @@ use Rattle.isa386.specs.declared.Ins.TheVariants.{Call, Jump, Branch, Plain}
 use Rattle.isa_dec.specs.Decoded.{decoded}
 use Rattle.isa_dec.specs.declared.Dec.TheVariants.{Ins as IsIns}
 use Rattle.mach_exec.specs.Word.{add32}
-use Rattle.c_tree.specs.Values.{Target}
+use Rattle.c_run.specs.Values.{Target}
 use Rattle.gen_small.specs.Ghost.{Prog}
 
 -- A place that a jump or call names: a function's entry and its close, the first and last place of the statement whose start is k,

@@ -1,6 +1,6 @@
 -- Where the parts of code stand, of which each item stands behind the one before it.
 use Rattle.std.specs.Prelude.{ℕ, ◌+◌, Bool, true, false, nat_eq, nat_lt, if◌then◌else◌, List, [], ◌∷◌, Option, Some, None}
-use Rattle.c_tree.specs.Values.{same_target}
+use Rattle.c_run.specs.Values.{same_target}
 use Rattle.gen_small.specs.Items.{Name, Entry, Close, Top, End, Inside, Item, Start, Open, Label}
 use Rattle.gen_small.specs.Emitted.{width}
 

@@ -6,14 +6,15 @@ use Rattle.c_type.specs.Types.{num}
 use Rattle.mach_mem.specs.Space.{Space}
 use Rattle.c_tree.specs.TExpr.{TExpr}
 use Rattle.c_tree.specs.TStmt.{TStmts}
-use Rattle.c_tree.specs.State.{State, Made, Acts, Gave, Halt, acts_of, no_changes}
-use Rattle.c_tree.specs.Values.{Value, Ended, Stopped}
+use Rattle.c_run.specs.State.{State, Made, Acts, Gave, Halt, acts_of, no_changes}
+use Rattle.c_run.specs.Values.{Value, Ended, Stopped}
 use Rattle.c_tree.specs.Bodies.{BodyAt, body_named}
-use Rattle.c_tree.specs.Run.{main_name, first_state, call_main, run_linked}
-use Rattle.c_tree.specs.Context.{Linked}
-use Rattle.c_tree.specs.Exprs.{value}
-use Rattle.c_tree.specs.Stmts.{stmts}
-use Rattle.c_tree.specs.Calls.{rest}
+use Rattle.c_tree.specs.Library.{main_name}
+use Rattle.c_run.specs.Run.{first_state, call_main, run_linked}
+use Rattle.c_run.specs.Context.{Linked}
+use Rattle.c_run.specs.Exprs.{value}
+use Rattle.c_run.specs.Stmts.{stmts}
+use Rattle.c_run.specs.Calls.{rest}
 use Rattle.mach_exec.specs.Process.{Goes, ran}
 use Rattle.mach_exec.specs.Ends.{Exited, Reached}
 use Rattle.gen_small.specs.Ghost.{M, process, Prog, Path}

@@ -3,7 +3,7 @@ use Rattle.std.specs.Prelude.{ℕ, zero, suc, List, [], ◌∷◌, false}
 use Rattle.c_type.specs.declared.Kind.TheVariants.{Int}
 use Rattle.c_type.specs.Types.{num}
 use Rattle.c_tree.specs.TStmt.{Local, auto, no_stmts}
-use Rattle.c_tree.specs.Values.{Body}
+use Rattle.c_run.specs.Values.{Body}
 use Rattle.gen_small.specs.declared.code_list.Label.{Label}
 use Rattle.gen_small.specs.declared.code_list.Label.TheVariants as l
 use Rattle.gen_small.specs.declared.code_list.Item.{Item}

@@ -4,7 +4,7 @@ use Rattle.c_type.specs.declared.Kind.TheVariants.{Int}
 use Rattle.c_type.specs.Types.{num}
 use Rattle.c_tree.specs.TStmt.{Local, auto, locals}
 use Rattle.c_tree.specs.Bodies.{BodyAt, Auto, autos}
-use Rattle.c_tree.specs.Context.{Linked}
+use Rattle.c_run.specs.Context.{Linked}
 use Rattle.gen_small.specs.Flows.{IsSmallStmts}
 
 -- automatic objects of type int

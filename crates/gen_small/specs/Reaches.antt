@@ -1,12 +1,12 @@
 -- Where the machine is when an expression has its value, and where it is when a run goes no further.
 use Rattle.std.specs.Prelude.{ℕ, ◌≡◌, ◌%◌, ◌<◌, ◌≤◌, ◌⊎◌, List, [], ◌∷◌, ◌++◌, true}
 use Rattle.c_type.specs.Types.{CType, num, ptr, enum}
-use Rattle.c_tree.specs.Values.{Value, Fn, Putchar, suits, Stop, Stopped, NoFuel, Stack, Ended, Fault, Leaves, Ill}
-use Rattle.c_tree.specs.State.{State, Act, Made, Acts, Out, Gave, Halt}
-use Rattle.c_tree.specs.Context.{Linked}
-use Rattle.c_tree.specs.Exprs.{Arg, Call}
-use Rattle.c_tree.specs.Stmts.{Given as Run}
-use Rattle.c_tree.specs.Calls.{library, int_var, put_byte, first_number}
+use Rattle.c_run.specs.Values.{Value, Fn, Putchar, suits, Stop, Stopped, NoFuel, Stack, Ended, Fault, Leaves, Ill}
+use Rattle.c_run.specs.State.{State, Act, Made, Acts, Out, Gave, Halt}
+use Rattle.c_run.specs.Context.{Linked}
+use Rattle.c_run.specs.Exprs.{Arg, Call}
+use Rattle.c_run.specs.Stmts.{Given as Run}
+use Rattle.c_run.specs.Calls.{library, int_var, put_byte, first_number}
 use Rattle.mach_exec.specs.Process.{Exits, Raises, advanced}
 use Rattle.gen_small.specs.Ghost.{M, process, Prog, arrive, arrived, Path}
 use Rattle.gen_small.specs.Items.{Layout}

@@ -5,7 +5,7 @@ use Rattle.c_type.specs.Types.{CType, num}
 use Rattle.c_tree.specs.declared.TBinary.{TBinary}
 use Rattle.c_tree.specs.declared.TBinary.TheVariants.{Add, Sub}
 use Rattle.c_tree.specs.TExpr.{Local, Outer, TExpr, name, int, convert, binary, assign, call, no_args, more_args, type_of}
-use Rattle.c_tree.specs.Context.{putchar_name}
+use Rattle.c_tree.specs.Library.{putchar_name}
 
 abbrev pub IsInt : CType → Type 0
 IsInt t = t ≡ num Int

@@ -8,10 +8,11 @@ use Rattle.c_tree.specs.TStmt.{locals}
 use Rattle.c_tree.specs.TUnit.{Func}
 use Rattle.c_tree.specs.Starts.{starts_func}
 use Rattle.c_tree.specs.Bodies.{BodyAt, autos, body_named}
-use Rattle.c_tree.specs.Context.{Linked}
-use Rattle.c_tree.specs.Values.{Ended, Stopped}
-use Rattle.c_tree.specs.State.{State, Halt, acts_of, no_changes}
-use Rattle.c_tree.specs.Run.{main_name, run_linked}
+use Rattle.c_run.specs.Context.{Linked}
+use Rattle.c_run.specs.Values.{Ended, Stopped}
+use Rattle.c_run.specs.State.{State, Halt, acts_of, no_changes}
+use Rattle.c_tree.specs.Library.{main_name}
+use Rattle.c_run.specs.Run.{run_linked}
 use Rattle.mach_exec.specs.Started.{started}
 use Rattle.gen_small.specs.Ghost.{Prog}
 use Rattle.gen_small.specs.Items.{Name, Item, Layout}

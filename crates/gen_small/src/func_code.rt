@@ -2,10 +2,10 @@
 ghost use Rattle.std.specs.Prelude.{◌≡◌, ◌+◌, ◌*◌, ◌≤◌, ◌∷◌, [], ◌++◌, ℕ, IfOk, length, true, false, map};
 ghost use Rattle.std.specs.List.{flat_map};
 ghost use Rattle.c_tree.specs.Bodies.{autos_local, autos};
-ghost use Rattle.c_tree.specs.Context.{Linked};
+ghost use Rattle.c_run.specs.Context.{Linked};
 ghost use Rattle.c_tree.specs.TStmt.{locals};
 ghost use Rattle.c_tree.specs.TypedOf.{local_of, local_decl_of, func_of};
-ghost use Rattle.c_tree.specs.Values.{Body};
+ghost use Rattle.c_run.specs.Values.{Body};
 ghost use Rattle.gen_small.specs.Items as s;
 ghost use Rattle.gen_small.specs.Code as c;
 ghost use Rattle.gen_small.specs.Whole.{IsFormMain};

@@ -1,6 +1,6 @@
 // The text of a program of the small form.
 ghost use Rattle.std.specs.Prelude.{◌≡◌, ℕ, IfOk};
-ghost use Rattle.c_tree.specs.Context.{Linked};
+ghost use Rattle.c_run.specs.Context.{Linked};
 ghost use Rattle.c_tree.specs.TypedOf.{func_of};
 ghost use Rattle.gen_small.specs.Whole.{IsFormMain, whole_code, text_of};
 

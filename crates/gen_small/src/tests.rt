@@ -8,7 +8,7 @@ ghost use Rattle.c_type.specs.Types.{num};
 ghost use Rattle.c_tree.specs.Bodies.{autos_local};
 ghost use Rattle.c_tree.specs.declared.TBinary.TheVariants.{Add, Sub};
 ghost use Rattle.c_tree.specs.TStmt.{locals};
-ghost use Rattle.c_tree.specs.Context.{putchar_name};
+ghost use Rattle.c_tree.specs.Library.{putchar_name};
 ghost use Rattle.c_tree.specs.TExpr as x;
 ghost use Rattle.c_tree.specs.TStmt as t;
 ghost use Rattle.c_tree.specs.TypedOf.{expr_of, stmt_of, stmts_from, local_decl_of, func_of};

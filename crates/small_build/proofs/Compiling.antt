@@ -2,16 +2,16 @@
 use Rattle.std.proofs.Common.{◌≡◌, ℕ, ◌+◌, ◌<◌, ◌≤◌, List, [], ◌∷◌, length, Vec, Global, get_or, refl, sym, ap, ◌∙◌, arith, length-append}
 use Rattle.std.specs.Prelude.{Some, None, true, false, Result, Ok, Err}
 use Rattle.std.specs.List.{AllZip}
-use Rattle.c_type.specs.Tokens.{Token}
-use Rattle.c_type.specs.Falls.{Falls}
+use Rattle.c_lex.specs.Tokens.{Token}
+use Rattle.c_lex.specs.Falls.{Falls}
 use Rattle.c_lex.proofs.Once.{falls_once}
 use Rattle.c_parse.proofs.Joined as parse
 use Rattle.c_tree.specs.TreeUnit as tu
 use Rattle.c_tree.specs.TypedOf.{func_of}
 use Rattle.c_tree.specs.declared.TFunc.{TFunc}
-use Rattle.c_tree.specs.Reads.{ReadsTokens}
+use Rattle.c_grammar.specs.Reads.{ReadsTokens}
 use Rattle.c_tree.specs.TUnit.{Func}
-use Rattle.c_tree.specs.Context.{linked}
+use Rattle.c_run.specs.Context.{linked}
 use Rattle.gen_small.specs.Items.{Name, Item, Start, Open, Op, Label, Goto, If, CallTo}
 use Rattle.gen_small.specs.Emitted.{width, item_bytes, emitted}
 use Rattle.gen_small.specs.Whole.{whole_code, label_in, base, text_of}

@@ -1,10 +1,10 @@
 -- A text has at least as many bytes as tokens.
 use Rattle.std.proofs.Common.{ℕ, suc, ◌+◌, ◌≤◌, List, [], ◌∷◌, ◌++◌, length, refl, ap, arith}
 use Rattle.std.specs.Prelude.{Option, Some, None}
-use Rattle.c_type.specs.Tokens.{Token, Tok}
-use Rattle.c_type.specs.Pieces.{Piece, piece_bytes, token_of}
-use Rattle.c_type.specs.Falls.{Falls, ArePieces, spelled, tokens_from, with_token}
-use Rattle.c_type.specs.Bytes.{newlines}
+use Rattle.c_lex.specs.Tokens.{Token, Tok}
+use Rattle.c_lex.specs.Pieces.{Piece, piece_bytes, token_of}
+use Rattle.c_lex.specs.Falls.{Falls, ArePieces, spelled, tokens_from, with_token}
+use Rattle.c_lex.specs.Bytes.{newlines}
 use Rattle.c_lex.proofs.Growing.{shorter}
 
 piece_tokens : (l : ℕ) (o : Option Tok) (ts : List Token) → length (with_token l o ts) ≤ suc (length ts)

@@ -2,8 +2,8 @@
 use Rattle.std.proofs.Common.{◌≡◌, ℕ, ◌+◌, ◌≤◌, List, [], ◌∷◌, ◌++◌, length, map, refl, sym, ap, ◌∙◌, arith, append-nil, subst}
 use Rattle.std.specs.Prelude.{Option, Some, None, true, ◌&&◌, option_map}
 use Rattle.std.specs.List.{list_all, flat_map}
-use Rattle.c_type.specs.Tokens.{Token}
-use Rattle.c_tree.specs.Words.{mark, open_brace, close_brace}
+use Rattle.c_lex.specs.Tokens.{Token}
+use Rattle.c_grammar.specs.Words.{mark, open_brace, close_brace}
 use Rattle.c_tree.specs.TreeDecl as d
 use Rattle.c_tree.specs.TreeStmt as s
 use Rattle.c_tree.specs.TreeUnit as tu
@@ -11,18 +11,18 @@ use Rattle.c_tree.specs.TStmt.{TStmts, locals}
 use Rattle.c_tree.specs.TUnit.{Func}
 use Rattle.c_tree.specs.Starts.{at, starts_stmts, starts_func}
 use Rattle.c_tree.specs.Bodies.{autos_local, autos}
-use Rattle.c_tree.specs.WrittenDecl.{plain_local, WrittenPar, plain_par}
-use Rattle.c_tree.specs.WrittenDeclr.{plain_declr, spell_declr}
-use Rattle.c_tree.specs.WrittenSpecs.{Parts, no_parts, more_parts, plain_specs, spell_specs}
-use Rattle.c_tree.specs.WrittenStmt.{WrittenBlock, plain_block, plain_stmts, spell_stmts, spell_locals, spell_block, IsBlock}
-use Rattle.c_tree.specs.WrittenUnit as wu
-use Rattle.c_tree.specs.WrittenUnit.{WrittenExt, WrittenHead, plain_ext, plain_unit, spell_ext, spell_exts, spell_head, AreExts, IsExt, specs_or_none}
-use Rattle.c_tree.specs.Reads.{ReadsTokens}
+use Rattle.c_grammar.specs.WrittenDecl.{plain_local, WrittenPar, plain_par}
+use Rattle.c_grammar.specs.WrittenDeclr.{plain_declr, spell_declr}
+use Rattle.c_grammar.specs.WrittenSpecs.{Parts, no_parts, more_parts, plain_specs, spell_specs}
+use Rattle.c_grammar.specs.WrittenStmt.{WrittenBlock, plain_block, plain_stmts, spell_stmts, spell_locals, spell_block, IsBlock}
+use Rattle.c_grammar.specs.WrittenUnit as wu
+use Rattle.c_grammar.specs.WrittenUnit.{WrittenExt, WrittenHead, plain_ext, plain_unit, spell_ext, spell_exts, spell_head, AreExts, IsExt, specs_or_none}
+use Rattle.c_grammar.specs.Reads.{ReadsTokens}
 use Rattle.gen_small.specs.Forms.{IsFormStmts, IsNumbered, stmts_weight}
 use Rattle.c_decl.proofs.DeclrAgain.{declr_longer}
-use Rattle.c_tree.specs.Context.{linked}
-use Rattle.c_tree.specs.Lasting.{lastings_of}
-use Rattle.c_tree.specs.Mentions.{in_local, in_stmts}
+use Rattle.c_run.specs.Context.{linked}
+use Rattle.c_run.specs.Lasting.{lastings_of}
+use Rattle.c_run.specs.Mentions.{in_local, in_stmts}
 use Rattle.gen_small.specs.Mains.{AllInt}
 use Rattle.gen_small.specs.Whole.{IsFormMain, IsSmallProgram}
 use Rattle.small_build.specs.SmallText.{IsSmallText, are_few}

@@ -1,6 +1,6 @@
 -- The program that texts of the small form make is their main.
 use Rattle.std.proofs.Common.{◌≡◌, ℕ, suc, List, [], ◌∷◌, length, map, refl, ap, ◌∙◌, arith}
-use Rattle.c_tree.specs.Reads.{Reads}
+use Rattle.c_grammar.specs.Reads.{Reads}
 use Rattle.c_tree.specs.TUnit.{Func, TypedUnit, Program}
 use Rattle.c_front.specs.Accepted.{IsAccepted}
 use Rattle.c_front.proofs.Causes.{units_same, typed_same}

@@ -3,20 +3,20 @@ use Rattle.std.proofs.Common.{◌≡◌, ℕ, suc, ◌+◌, ◌≤◌, List, [],
 use Rattle.std.specs.Prelude.{Option, Some, None, Bool, true, false, ◌&&◌, nat_le}
 use Rattle.std.proofs.lemmas.Bool.{leb-true}
 use Rattle.c_type.specs.Names.{Name}
-use Rattle.c_type.specs.Tokens.{Token, Tok}
-use Rattle.c_type.specs.Tokens as k
+use Rattle.c_lex.specs.Tokens.{Token, Tok}
+use Rattle.c_lex.specs.Tokens as k
 use Rattle.c_type.specs.Types.{num}
 use Rattle.c_type.specs.declared.Kind.TheVariants.{Int}
-use Rattle.c_tree.specs.Words.{tok, mark, word, open_round, close_round, semicolon, binary_mark}
+use Rattle.c_grammar.specs.Words.{tok, mark, word, open_round, close_round, semicolon, binary_mark}
 use Rattle.c_tree.specs.declared.TBinary.{TBinary}
 use Rattle.c_tree.specs.declared.AssignOp.TheVariants as ao
 use Rattle.c_tree.specs.declared.BinaryOp.TheVariants as op
 use Rattle.c_tree.specs.TExpr.{Local, TExpr, name, int, binary, assign, call, no_args, more_args}
 use Rattle.c_tree.specs.TStmt.{TStmt, TStmts, block, no_stmts}
-use Rattle.c_tree.specs.WrittenExpr as w
-use Rattle.c_tree.specs.WrittenExpr.{Written, Args, Others, plain, plains, spell, spell_args, level, IsLevelled, first}
-use Rattle.c_tree.specs.WrittenStmt as z
-use Rattle.c_tree.specs.WrittenStmt.{WrittenStmt, WrittenStmts, plain_stmt, plain_stmts, spell_stmt, spell_stmts, IsStmt, AreStmts}
+use Rattle.c_grammar.specs.WrittenExpr as w
+use Rattle.c_grammar.specs.WrittenExpr.{Written, Args, Others, plain, plains, spell, spell_args, level, IsLevelled, first}
+use Rattle.c_grammar.specs.WrittenStmt as z
+use Rattle.c_grammar.specs.WrittenStmt.{WrittenStmt, WrittenStmts, plain_stmt, plain_stmts, spell_stmt, spell_stmts, IsStmt, AreStmts}
 use Rattle.gen_small.specs.Code.{temps}
 use Rattle.gen_small.specs.Forms.{IsFormStmt, IsFormStmts, weight, stmt_weight, stmts_weight}
 use Rattle.name_set.specs.Different.{place_in}

@@ -4,20 +4,21 @@ use Rattle.std.specs.Prelude.{Option, Some, None, Bool, true, false}
 use Rattle.std.specs.List.{list_all}
 use Rattle.std.proofs.lemmas.List.{length-map}
 use Rattle.c_type.specs.Names.{Name}
-use Rattle.c_type.specs.Tokens.{Token}
-use Rattle.c_type.specs.Tokens as k
-use Rattle.c_tree.specs.Words.{After, listed, members_of, spell_others, spell_separated, tok, mark, word, open_round, close_round, close_brace, comma_mark, semicolon, storage_word, type_word, tag_word}
+use Rattle.c_lex.specs.Tokens.{Token}
+use Rattle.c_lex.specs.Tokens as k
+use Rattle.c_grammar.specs.Words.{After, listed, members_of, spell_others, spell_separated, tok, mark, word, open_round, close_round, close_brace, comma_mark, semicolon, storage_word, type_word, tag_word}
 use Rattle.c_tree.specs.TreeDecl as d
-use Rattle.c_tree.specs.WrittenType.{word_part, tag_part, name_part}
-use Rattle.c_tree.specs.WrittenExpr as w
-use Rattle.c_tree.specs.WrittenDeclr as wd
-use Rattle.c_tree.specs.WrittenDeclr.{WrittenDeclr, WrittenItem, plain_declr, plain_names, plain_if, plain_given, plain_item, spell_declr, spell_if, declr_line, declared}
-use Rattle.c_tree.specs.WrittenDecl as wl
-use Rattle.c_tree.specs.WrittenDecl.{LocalPart, WrittenLocal, plain_local, spell_local, spell_local_parts}
-use Rattle.c_tree.specs.WrittenStmt as z
-use Rattle.c_tree.specs.WrittenStmt.{WrittenStmt, WrittenStmts, WrittenBlock, plain_stmt, plain_stmts, plain_block, spell_stmt, spell_stmts, spell_items, spell_locals, spell_block}
-use Rattle.c_tree.specs.WrittenUnit as wu
-use Rattle.c_tree.specs.WrittenUnit.{WrittenExt, WrittenHead, plain_ext, plain_unit, spell_ext, spell_exts, spell_head}
+use Rattle.c_grammar.specs.WrittenType.{word_part, tag_part, name_part}
+use Rattle.c_grammar.specs.WrittenExpr as w
+use Rattle.c_grammar.specs.WrittenDeclr as wd
+use Rattle.c_grammar.specs.WrittenDeclr.{WrittenDeclr, WrittenItem, plain_declr, plain_names, plain_if, plain_given, plain_item, spell_declr, spell_if, declr_line}
+use Rattle.c_tree.specs.TreeDecl.{declared}
+use Rattle.c_grammar.specs.WrittenDecl as wl
+use Rattle.c_grammar.specs.WrittenDecl.{LocalPart, WrittenLocal, plain_local, spell_local, spell_local_parts}
+use Rattle.c_grammar.specs.WrittenStmt as z
+use Rattle.c_grammar.specs.WrittenStmt.{WrittenStmt, WrittenStmts, WrittenBlock, plain_stmt, plain_stmts, plain_block, spell_stmt, spell_stmts, spell_items, spell_locals, spell_block}
+use Rattle.c_grammar.specs.WrittenUnit as wu
+use Rattle.c_grammar.specs.WrittenUnit.{WrittenExt, WrittenHead, plain_ext, plain_unit, spell_ext, spell_exts, spell_head}
 use Rattle.c_expr.proofs.Fronts.{expr_longer}
 use Rattle.c_decl.proofs.DeclrAgain.{declr_longer}
 use Rattle.c_decl.proofs.InitAgain as ia

@@ -5,8 +5,8 @@ use Rattle.mach_mem.specs.Addresses.{text_room}
 use Rattle.c_tree.specs.declared.TFunc.{TFunc}
 use Rattle.c_tree.specs.TypedOf.{func_of}
 use Rattle.c_tree.specs.TUnit.{Func}
-use Rattle.c_tree.specs.Context.{linked}
-use Rattle.c_type.specs.Tokens.{Token}
+use Rattle.c_run.specs.Context.{linked}
+use Rattle.c_lex.specs.Tokens.{Token}
 use Rattle.gen_small.specs.Whole.{text_of}
 use Rattle.small_build.specs.SmallText.{AreSmallTokens, AreSmallTexts}
 use Rattle.small_form.specs.SmallForm.{program_of_main}

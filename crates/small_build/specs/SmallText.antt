@@ -1,12 +1,12 @@
 -- Texts of the small form.
 use Rattle.std.specs.Prelude.{ℕ, suc, ◌-◌, ◌≡◌, ◌≤◌, ◌&&◌, nat_eq, nat_le, Bool, true, List, [], ◌∷◌, length, Some}
 use Rattle.c_type.specs.Names.{pick}
-use Rattle.c_type.specs.Tokens.{Token, Tok}
-use Rattle.c_type.specs.Tokens as k
-use Rattle.c_type.specs.Falls.{Falls}
-use Rattle.c_tree.specs.Words.{open_round, close_round}
+use Rattle.c_lex.specs.Tokens.{Token, Tok}
+use Rattle.c_lex.specs.Tokens as k
+use Rattle.c_lex.specs.Falls.{Falls}
+use Rattle.c_grammar.specs.Words.{open_round, close_round}
 use Rattle.c_tree.specs.TreeUnit as tu
-use Rattle.c_tree.specs.Reads.{ReadsTokens}
+use Rattle.c_grammar.specs.Reads.{ReadsTokens}
 use Rattle.c_tree.specs.TUnit.{Func}
 use Rattle.small_form.specs.SmallForm.{small_main}
 

@@ -3,7 +3,7 @@ ghost use Rattle.std.specs.Prelude.{◌≡◌, ◌≤◌, length, map};
 ghost use Rattle.std.specs.List.{AllZip};
 ghost use Rattle.c_lex.specs.Shown.{token_of, tok_of, tokens_of};
 ghost use Rattle.c_tree.specs.TreeOf.{unit_of};
-ghost use Rattle.c_tree.specs.Reads.{ReadsTokens};
+ghost use Rattle.c_grammar.specs.Reads.{ReadsTokens};
 ghost use Rattle.small_build.specs.SmallText as s;
 ghost use Rattle.small_build.specs.Compiled.{TypesTokens, Types, Compiles};
 ghost use Rattle.c_front.specs.Sources.{IsSource, texts_of};

@@ -19,8 +19,8 @@ use Rattle.c_tree.specs.TStmt as st
 use Rattle.c_tree.specs.TStmt.{TStmt, TStmts, LocalDecl, locals, expr, while_, return_, block, no_stmts, more_stmts}
 use Rattle.c_tree.specs.Starts.{Start, starts_local, starts_stmt, starts_stmts}
 use Rattle.c_tree.specs.Bodies.{Auto, autos_local, autos_stmt, autos_stmts}
-use Rattle.c_tree.specs.Mentions.{Mention, in_expr, in_local, in_stmt, in_stmts}
-use Rattle.c_tree.specs.WrittenDeclr.{declared}
+use Rattle.c_run.specs.Mentions.{Mention, in_expr, in_local, in_stmt, in_stmts}
+use Rattle.c_tree.specs.TreeDecl.{declared}
 use Rattle.gen_small.specs.Small.{IsSmall, IsVariable, IsSum}
 use Rattle.gen_small.specs.Forms.{AreThere, IsNumbered}
 use Rattle.gen_small.specs.Mains.{AllInt, AllPlain}

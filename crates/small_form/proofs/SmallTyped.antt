@@ -15,13 +15,13 @@ use Rattle.c_tree.specs.TreeStmt as us
 use Rattle.c_tree.specs.TExpr.{Local, Outer, TExpr, name, int, convert, binary, assign, no_args, more_args, type_of}
 use Rattle.c_tree.specs.TStmt as st
 use Rattle.c_tree.specs.TStmt.{TStmt, TStmts}
-use Rattle.c_tree.specs.Context.{putchar_name}
-use Rattle.c_tree.specs.RuleTexts.{texts_in}
-use Rattle.c_tree.specs.RuleScope.{Is, onward, provided, Env, Thing, meaning_of, function_ref, past, met, started}
-use Rattle.c_tree.specs.RuleValues.{used, used_as, to_type, wide, widen, meeting, scalar, is_scalar, taken, value_for, are_integers}
-use Rattle.c_tree.specs.RuleExprs as r
-use Rattle.c_tree.specs.RuleTree.{IsExpr, IsCalled, AreArgs}
-use Rattle.c_tree.specs.RuleStmts.{Place, in_loop, enter, IsStmt, AreStmts}
+use Rattle.c_tree.specs.Library.{putchar_name}
+use Rattle.c_rule.specs.RuleTexts.{texts_in}
+use Rattle.c_rule.specs.RuleScope.{Is, onward, provided, Env, Thing, meaning_of, function_ref, past, met, started}
+use Rattle.c_rule.specs.RuleValues.{used, used_as, to_type, wide, widen, meeting, scalar, is_scalar, taken, value_for, are_integers}
+use Rattle.c_rule.specs.RuleExprs as r
+use Rattle.c_rule.specs.RuleTree.{IsExpr, IsCalled, AreArgs}
+use Rattle.c_rule.specs.RuleStmts.{Place, in_loop, enter, IsStmt, AreStmts}
 use Rattle.name_set.specs.Different.{place_in}
 use Rattle.small_form.specs.SmallForm.{variable, number, putchar, sum_of, sum_in, variable_in, is_putchar, argument_in, action_in, stmt_in, stmts_in, stmt_starts, stmts_starts}
 use Rattle.small_form.proofs.Shaped.{none_some, some_is, mapped, picked, sum_parts, assignment_parts, call_parts, loop_parts, return_parts, done_parts, more_parts}

@@ -20,13 +20,12 @@ use Rattle.c_tree.specs.TStmt as st
 use Rattle.c_tree.specs.TUnit.{Func, plain, func}
 use Rattle.c_tree.specs.declared.TFunc.{TFunc}
 use Rattle.c_tree.specs.TypedOf.{func_of}
-use Rattle.c_tree.specs.Context.{putchar_name}
-use Rattle.c_tree.specs.Run.{main_name}
-use Rattle.c_tree.specs.WrittenDeclr.{declared}
-use Rattle.c_tree.specs.RuleScope.{Env, Entry, Meaning, Thing, Function, in_scope, started}
-use Rattle.c_tree.specs.RuleStmts.{AreLocals, AreDecls}
-use Rattle.c_tree.specs.RuleTags.{in_file}
-use Rattle.c_tree.specs.RuleUnit.{IsTyped, at_first, at_body, in_body}
+use Rattle.c_tree.specs.Library.{putchar_name, main_name}
+use Rattle.c_tree.specs.TreeDecl.{declared}
+use Rattle.c_rule.specs.RuleScope.{Env, Entry, Meaning, Thing, Function, in_scope, started}
+use Rattle.c_rule.specs.RuleStmts.{AreLocals, AreDecls}
+use Rattle.c_rule.specs.RuleTags.{in_file}
+use Rattle.c_rule.specs.RuleUnit.{IsTyped, at_first, at_body, in_body}
 use Rattle.small_form.specs.declared.typed_main.Fault.{Fault}
 use Rattle.small_form.specs.Given.{Gives}
 use Rattle.name_set.specs.Different.{place_in, stands_in, are_different}

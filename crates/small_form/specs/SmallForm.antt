@@ -20,9 +20,8 @@ use Rattle.c_tree.specs.TExpr.{Local, Outer, TExpr, name, int, binary, assign, c
 use Rattle.c_tree.specs.TStmt as st
 use Rattle.c_tree.specs.TStmt.{LocalDecl, TStmt, TStmts, expr, while_, return_, block, no_stmts, more_stmts}
 use Rattle.c_tree.specs.TUnit.{Func, TypedUnit, Program, plain, func}
-use Rattle.c_tree.specs.Context.{putchar_name}
-use Rattle.c_tree.specs.Run.{main_name}
-use Rattle.c_tree.specs.WrittenDeclr.{declared}
+use Rattle.c_tree.specs.Library.{putchar_name, main_name}
+use Rattle.c_tree.specs.TreeDecl.{declared}
 use Rattle.name_set.specs.Different.{place_in, are_different}
 
 -- ---- expressions

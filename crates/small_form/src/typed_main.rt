@@ -6,8 +6,8 @@ ghost use Rattle.c_type.specs.Types.{num};
 ghost use Rattle.c_type.specs.declared.Kind.TheVariants.{Int};
 ghost use Rattle.c_tree.specs.TreeOf as u;
 ghost use Rattle.c_tree.specs.TypedOf as t;
-ghost use Rattle.c_tree.specs.WrittenDeclr.{declared};
-ghost use Rattle.c_tree.specs.RuleUnit.{IsTyped};
+ghost use Rattle.c_tree.specs.TreeDecl.{declared};
+ghost use Rattle.c_rule.specs.RuleUnit.{IsTyped};
 ghost use Rattle.small_form.specs.Given.{Gives};
 ghost use Rattle.name_set.specs.Different.{place_in, are_different};
 ghost use Rattle.small_form.specs.SmallForm as s;
@@ -42,6 +42,8 @@ impl From<AllocError> for Fault {
 }
 
 impl<T: Drop> From<AllocFailed<T>> for Fault {
+    ghost use Rattle.std.specs.Prelude.{◌≡◌};
+    ghost use Rattle.small_form.specs.declared.typed_main.Fault.{Fault};
 
     ghost from_gives = { λ _ e. e ≡ Fault.Memory };
 

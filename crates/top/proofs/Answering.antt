@@ -9,11 +9,11 @@ use Rattle.std.specs.declared.alloc.Global.{Global}
 use Rattle.mach_mem.specs.Space.{Space, IsInitial}
 use Rattle.c_type.specs.Names.{Name}
 use Rattle.c_tree.specs.TUnit.{Func, Program}
-use Rattle.c_tree.specs.Context.{linked}
-use Rattle.c_tree.specs.Values.{Ended, Stopped}
-use Rattle.c_tree.specs.State.{State, Halt, no_changes}
-use Rattle.c_tree.specs.Run.{run}
-use Rattle.c_tree.proofs.LaterRun.{stops_at}
+use Rattle.c_run.specs.Context.{linked}
+use Rattle.c_run.specs.Values.{Ended, Stopped}
+use Rattle.c_run.specs.State.{State, Halt, no_changes}
+use Rattle.c_run.specs.Run.{run}
+use Rattle.c_run.proofs.LaterRun.{stops_at}
 use Rattle.mach_exec.specs.Started.{started}
 use Rattle.mach_exec.specs.Ends.{Exited, Reached}
 use Rattle.gen_small.proofs.WholeRuns.{whole_ends, whole_stops}

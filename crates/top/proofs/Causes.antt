@@ -2,7 +2,7 @@
 use Rattle.std.proofs.Common.{◌≡◌, ℕ, List, refl, ap, ◌∙◌}
 use Rattle.std.specs.Prelude.{Some, None}
 use Rattle.c_tree.specs.TUnit.{Func, Program}
-use Rattle.c_tree.specs.JoinChecks as join
+use Rattle.c_join.specs.JoinChecks as join
 use Rattle.c_whole.specs.Refusals.{told_as}
 use Rattle.c_whole.specs.declared.JoinErr.{JoinErr}
 use Rattle.c_whole.specs.declared.JoinErr.TheVariants as je

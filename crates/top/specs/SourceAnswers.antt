@@ -1,9 +1,9 @@
 -- *SourceAnswers*: the end of a program, against *Run*.
 use Rattle.std.specs.Prelude.{ℕ, ◌≡◌, ◌<◌, ◌≤◌, ◌⊎◌, ◌+◌, ◌*◌, []}
 use Rattle.c_tree.specs.TUnit.{Program}
-use Rattle.c_tree.specs.Values.{Ended, Stopped}
-use Rattle.c_tree.specs.State.{State, Halt, no_changes}
-use Rattle.c_tree.specs.Run.{run}
+use Rattle.c_run.specs.Values.{Ended, Stopped}
+use Rattle.c_run.specs.State.{State, Halt, no_changes}
+use Rattle.c_run.specs.Run.{run}
 use Rattle.subject.specs.Output.{GainsFront}
 use Rattle.top.specs.Outside.{Outside, IsExcused, IsEndWith}
 use Rattle.top.specs.declared.answer.End.{End}

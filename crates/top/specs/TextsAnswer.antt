@@ -1,7 +1,7 @@
 -- *TextsAnswer*: the end of a call whose files have these texts.
 use Rattle.std.specs.Prelude.{ℕ, ◌≡◌, ◌⊎◌, List, length, ⊤}
 use Rattle.c_tree.specs.TUnit.{Func, Program}
-use Rattle.c_tree.specs.JoinChecks as join
+use Rattle.c_join.specs.JoinChecks as join
 use Rattle.c_whole.specs.Refusals.{told_as}
 use Rattle.c_whole.specs.declared.JoinErr.{JoinErr}
 use Rattle.c_whole.specs.declared.JoinErr.TheVariants as err

@@ -1,4 +1,4 @@
-use Rattle.c_scope.proofs.TypingLaws.{is_sound}
+use Rattle.c_rule.proofs.TypingLaws.{is_sound}
 use Rattle.c_scope.proofs.what_is_judged_holds.Goals as goal
 
 pub returns : goal.returns

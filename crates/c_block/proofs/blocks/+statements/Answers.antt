@@ -11,11 +11,11 @@ use Rattle.c_tree.specs.TExpr.{TExpr}
 use Rattle.c_tree.specs.TStmt as st
 use Rattle.c_tree.specs.TStmt.{TStmts, TItems, more_stmts}
 use Rattle.c_tree.specs.TypedOf.{expr_of, stmt_of, stmts_from, items_from, local_decl_of}
-use Rattle.c_tree.specs.RuleScope.{Judged, Env}
-use Rattle.c_tree.specs.RuleStmts.{Place, labels_differ}
+use Rattle.c_rule.specs.RuleScope.{Judged, Env}
+use Rattle.c_rule.specs.RuleStmts.{Place, labels_differ}
 use Rattle.c_scope.specs.EnvOf.{env_of}
 use Rattle.c_scope.specs.declared.error.TypeErr.{TypeErr}
-use Rattle.c_scope.specs.Judging.{Behind, behind, judged_decls, judged_stmt, judged_stmts, judged_items}
+use Rattle.c_rule.specs.Judging.{Behind, behind, judged_decls, judged_stmt, judged_stmts, judged_items}
 use Rattle.c_scope.specs.Says.{Refused, SaysBehind}
 use Rattle.c_value.specs.Boxed.{boxed}
 use Rattle.c_block.specs.Boxed.{boxed_stmt}

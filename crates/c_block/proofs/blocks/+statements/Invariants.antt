@@ -4,7 +4,7 @@ use Rattle.c_tree.specs.TreeOf as u
 use Rattle.c_tree.specs.TStmt.{more_stmts}
 use Rattle.c_tree.specs.TypedOf.{stmt_of}
 use Rattle.c_scope.specs.EnvOf.{env_of}
-use Rattle.c_scope.specs.Judging.{judged_stmts, judged_items}
+use Rattle.c_rule.specs.Judging.{judged_stmts, judged_items}
 use Rattle.c_block.specs.PlaceOf.{place_of}
 use Rattle.c_block.specs.SwitchParts.{put, part_of}
 use Rattle.c_block.proofs.Lists.{with_parts}

@@ -11,10 +11,10 @@ use Rattle.c_tree.specs.declared.typed_stmt.TInit.{TInit}
 use Rattle.c_tree.specs.TreeOf as u
 use Rattle.c_tree.specs.TStmt as st
 use Rattle.c_tree.specs.TypedOf.{init_of}
-use Rattle.c_tree.specs.RuleScope.{Judged, Env}
+use Rattle.c_rule.specs.RuleScope.{Judged, Env}
 use Rattle.c_scope.specs.declared.error.TypeErr.{TypeErr}
 use Rattle.c_scope.specs.EnvOf.{env_of}
-use Rattle.c_scope.specs.Judging.{Behind, behind, judged_init, judged_inits}
+use Rattle.c_rule.specs.Judging.{Behind, behind, judged_init, judged_inits}
 use Rattle.c_scope.specs.Says.{Refused}
 use Rattle.c_block.specs.Initialisers.{grouped}
 use Rattle.c_block.proofs.Inits.{part_row, type_at, parts_past, parts_end, onto_group, array_row, struct_row, group_says, group_refused}

@@ -5,7 +5,7 @@ use Rattle.c_tree.specs.TreeOf as u
 use Rattle.c_tree.specs.TStmt as st
 use Rattle.c_tree.specs.TypedOf.{init_of}
 use Rattle.c_scope.specs.EnvOf.{env_of}
-use Rattle.c_scope.specs.Judging.{judged_inits}
+use Rattle.c_rule.specs.Judging.{judged_inits}
 use Rattle.c_block.proofs.Lists.{with_parts}
 use Rattle.c_block.proofs.initialisers.+inits.Given as goal
 

@@ -1,6 +1,6 @@
 -- The labels of the whole differ exactly where those that are left differ, also from those before them.
 use Rattle.std.proofs.Common.{◌≡◌, drop}
-use Rattle.c_tree.specs.RuleStmts as s
+use Rattle.c_rule.specs.RuleStmts as s
 use Rattle.c_tree.specs.TypedOf.{items_from}
 use Rattle.c_block.proofs.LabelsDiffer.{left_differ}
 use Rattle.c_block.proofs.labels.labels_differ.Given as goal

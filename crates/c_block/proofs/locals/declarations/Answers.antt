@@ -5,9 +5,9 @@ use Rattle.c_tree.specs.declared.typed_stmt.TLocalDecl.{TLocalDecl}
 use Rattle.c_tree.specs.TreeOf as u
 use Rattle.c_tree.specs.TStmt.{LocalDecl}
 use Rattle.c_tree.specs.TypedOf.{local_decl_of}
-use Rattle.c_tree.specs.RuleScope.{Judged, Env}
+use Rattle.c_rule.specs.RuleScope.{Judged, Env}
 use Rattle.c_scope.specs.EnvOf.{env_of}
-use Rattle.c_scope.specs.Judging.{Behind, judged_decls}
+use Rattle.c_rule.specs.Judging.{Behind, judged_decls}
 use Rattle.c_block.specs.Here.{judged_decl_here}
 use Rattle.c_block.proofs.FromHere.{from_here}
 use Rattle.c_block.proofs.Here.{decl_row, decls_end}

@@ -3,7 +3,7 @@ use Rattle.std.proofs.Common.{◌≡◌, ◌∷◌, drop, map}
 use Rattle.c_tree.specs.TreeOf as u
 use Rattle.c_tree.specs.TypedOf.{local_decl_of}
 use Rattle.c_scope.specs.EnvOf.{env_of}
-use Rattle.c_scope.specs.Judging.{judged_decls}
+use Rattle.c_rule.specs.Judging.{judged_decls}
 use Rattle.c_block.proofs.Lists.{with_parts}
 use Rattle.c_block.proofs.locals.declarations.Given as goal
 

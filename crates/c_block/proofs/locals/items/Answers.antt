@@ -7,9 +7,9 @@ use Rattle.c_tree.specs.declared.typed_stmt.TLocal.{TLocal}
 use Rattle.c_tree.specs.TreeOf as u
 use Rattle.c_tree.specs.TStmt.{Local}
 use Rattle.c_tree.specs.TypedOf.{local_of}
-use Rattle.c_tree.specs.RuleScope.{Judged, Env}
+use Rattle.c_rule.specs.RuleScope.{Judged, Env}
 use Rattle.c_scope.specs.EnvOf.{env_of}
-use Rattle.c_scope.specs.Judging.{Behind, judged_locals}
+use Rattle.c_rule.specs.Judging.{Behind, judged_locals}
 use Rattle.c_block.specs.Here.{judged_item_here}
 use Rattle.c_block.proofs.FromHere.{from_here}
 use Rattle.c_block.proofs.Here.{item_row, items_end}

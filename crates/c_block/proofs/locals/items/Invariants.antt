@@ -4,7 +4,7 @@ use Rattle.c_type.specs.Of.{type_of}
 use Rattle.c_tree.specs.TreeOf as u
 use Rattle.c_tree.specs.TypedOf.{local_of}
 use Rattle.c_scope.specs.EnvOf.{env_of}
-use Rattle.c_scope.specs.Judging.{judged_locals}
+use Rattle.c_rule.specs.Judging.{judged_locals}
 use Rattle.c_block.proofs.Lists.{with_parts}
 use Rattle.c_block.proofs.locals.items.Given as goal
 

@@ -1,7 +1,7 @@
 use Rattle.std.proofs.Common.{rules, ◌≡◌}
 use Rattle.c_tree.specs.TreeOf.{expr_of, exprs_from}
-use Rattle.c_tree.specs.RuleScope.{met}
-use Rattle.c_tree.specs.RuleTexts.{texts_in, texts_in_all}
+use Rattle.c_rule.specs.RuleScope.{met}
+use Rattle.c_rule.specs.RuleTexts.{texts_in, texts_in_all}
 use Rattle.c_scope.specs.EnvOf.{env_of}
 use Rattle.c_block.proofs.TextsMet.{call_met}
 use Rattle.c_block.proofs.texts.+texts.Goals as goal

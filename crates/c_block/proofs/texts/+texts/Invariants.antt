@@ -1,8 +1,8 @@
 -- The texts that are left decide.
 use Rattle.std.proofs.Common.{◌≡◌, drop}
 use Rattle.c_tree.specs.TreeOf as u
-use Rattle.c_tree.specs.RuleScope.{met}
-use Rattle.c_tree.specs.RuleTexts.{texts_in_all}
+use Rattle.c_rule.specs.RuleScope.{met}
+use Rattle.c_rule.specs.RuleTexts.{texts_in_all}
 use Rattle.c_scope.specs.EnvOf.{env_of}
 use Rattle.c_block.proofs.texts.+texts.Given as goal
 

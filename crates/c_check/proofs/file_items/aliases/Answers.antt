@@ -7,11 +7,11 @@ use Rattle.c_tree.specs.TreeOf as u
 use Rattle.c_tree.specs.TStmt as st
 use Rattle.c_tree.specs.TypedOf.{declr_of}
 use Rattle.c_check.specs.FileParts.{judged_alias_here}
-use Rattle.c_tree.specs.RuleScope.{Judged, Env}
+use Rattle.c_rule.specs.RuleScope.{Judged, Env}
 use Rattle.c_scope.specs.declared.error.TypeErr.{TypeErr}
 use Rattle.c_scope.specs.EnvOf.{env_of}
-use Rattle.c_scope.specs.Judging.{Behind}
-use Rattle.c_scope.specs.JudgingUnit as j
+use Rattle.c_rule.specs.Judging.{Behind}
+use Rattle.c_rule.specs.JudgingUnit as j
 use Rattle.c_block.proofs.Lists.{in_front, onto_list, err_judged}
 use Rattle.c_check.proofs.InOrder.{first, next, refused, last}
 use Rattle.c_check.proofs.Rows.{alias_row}

@@ -9,11 +9,11 @@ use Rattle.c_tree.specs.TStmt as st
 use Rattle.c_tree.specs.TypedOf.{declr_of}
 use Rattle.c_check.specs.Parameters.{judged_parameter_here}
 use Rattle.c_check.specs.ListOf.{names_of}
-use Rattle.c_tree.specs.RuleScope.{Judged, Env}
+use Rattle.c_rule.specs.RuleScope.{Judged, Env}
 use Rattle.c_scope.specs.declared.error.TypeErr.{TypeErr}
 use Rattle.c_scope.specs.EnvOf.{env_of}
-use Rattle.c_scope.specs.Judging.{Behind}
-use Rattle.c_scope.specs.JudgingUnit as j
+use Rattle.c_rule.specs.Judging.{Behind}
+use Rattle.c_rule.specs.JudgingUnit as j
 use Rattle.c_block.proofs.Lists.{in_front, onto_list, err_judged}
 use Rattle.c_check.proofs.InOrder.{first, next, refused, last}
 use Rattle.c_check.proofs.Rows.{parameter_row}

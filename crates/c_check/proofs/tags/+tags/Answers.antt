@@ -8,12 +8,12 @@ use Rattle.c_tree.specs.declared.decl.Mem.{Mem}
 use Rattle.c_tree.specs.TreeDecl as td
 use Rattle.c_tree.specs.TreeOf as u
 use Rattle.c_tree.specs.TUnit as tu
-use Rattle.c_tree.specs.RuleScope.{Judged, Env}
-use Rattle.c_tree.specs.RuleTags.{names_differ, unplaced}
+use Rattle.c_rule.specs.RuleScope.{Judged, Env}
+use Rattle.c_rule.specs.RuleTags.{names_differ, unplaced}
 use Rattle.c_scope.specs.declared.error.TypeErr.{TypeErr}
 use Rattle.c_scope.specs.EnvOf.{env_of}
-use Rattle.c_scope.specs.Judging.{Behind}
-use Rattle.c_scope.specs.JudgingUnit as j
+use Rattle.c_rule.specs.Judging.{Behind}
+use Rattle.c_rule.specs.JudgingUnit as j
 use Rattle.c_scope.specs.Says.{SaysBehind}
 use Rattle.c_block.proofs.Lists.{err_judged}
 use Rattle.c_check.specs.Words.{typed_of}

@@ -2,7 +2,7 @@ use Rattle.std.proofs.Common.{ℕ, ◌+◌, List, drop, map, ap}
 use Rattle.c_type.specs.Types.{Member}
 use Rattle.c_tree.specs.declared.typed_stmt.TDeclr.{TDeclr}
 use Rattle.c_tree.specs.TypedOf.{declr_of}
-use Rattle.c_tree.specs.RuleTags.{member_of}
+use Rattle.c_rule.specs.RuleTags.{member_of}
 use Rattle.c_block.proofs.FromHere.{from_here}
 use Rattle.c_check.proofs.TagBodies.{one_member_more}
 use Rattle.c_check.proofs.tags.add_members.Goals as goal

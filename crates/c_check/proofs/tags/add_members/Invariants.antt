@@ -2,7 +2,7 @@
 use Rattle.std.proofs.Common.{◌≡◌, ◌++◌, drop, map}
 use Rattle.c_type.specs.Of.{members_of}
 use Rattle.c_tree.specs.TypedOf.{declr_of}
-use Rattle.c_tree.specs.RuleTags.{member_of}
+use Rattle.c_rule.specs.RuleTags.{member_of}
 use Rattle.c_check.proofs.tags.add_members.Given as goal
 
 abbrev pub invariant-loop-declr : goal.invariant-loop-declr

@@ -2,7 +2,7 @@
 use Rattle.std.proofs.Common.{◌≡◌, ◌++◌, drop, map}
 use Rattle.c_type.specs.Of.{members_of}
 use Rattle.c_tree.specs.TypedOf.{enumerator_of}
-use Rattle.c_tree.specs.RuleTags.{as_member}
+use Rattle.c_rule.specs.RuleTags.{as_member}
 use Rattle.c_check.proofs.tags.as_members.Given as goal
 
 abbrev pub invariant-loop-one : goal.invariant-loop-one

@@ -6,11 +6,11 @@ use Rattle.c_tree.specs.declared.typed_unit.TEnumerator.{TEnumerator}
 use Rattle.c_tree.specs.TreeOf.{en_of}
 use Rattle.c_tree.specs.TUnit as t
 use Rattle.c_tree.specs.TypedOf.{enumerator_of}
-use Rattle.c_tree.specs.RuleScope.{Judged, onward, Env}
+use Rattle.c_rule.specs.RuleScope.{Judged, onward, Env}
 use Rattle.c_scope.specs.declared.error.TypeErr.{TypeErr}
 use Rattle.c_scope.specs.EnvOf.{env_of}
-use Rattle.c_scope.specs.Judging.{Behind, behind}
-use Rattle.c_scope.specs.JudgingUnit.{judged_enumerators}
+use Rattle.c_rule.specs.Judging.{Behind, behind}
+use Rattle.c_rule.specs.JudgingUnit.{judged_enumerators}
 use Rattle.c_scope.specs.Says.{Refused}
 use Rattle.c_block.proofs.FromHere.{from_here}
 use Rattle.c_block.proofs.Lists.{with_parts, none_before, one_more, refused_after, all_parts, onto_list, err_judged}

@@ -2,7 +2,7 @@
 use Rattle.std.proofs.Common.{◌≡◌, ◌++◌, drop, map}
 use Rattle.std.specs.List.{flat_map}
 use Rattle.c_tree.specs.TreeOf as u
-use Rattle.c_tree.specs.RuleNames as n
+use Rattle.c_rule.specs.RuleNames as n
 use Rattle.c_check.specs.UnitParts.{names_in}
 use Rattle.c_check.proofs.units.add_items.Given as goal
 

@@ -2,8 +2,8 @@ use Rattle.std.proofs.Common.{map, sym, ap, ◌∙◌}
 use Rattle.std.proofs.lemmas.Bool.{ltb-true}
 use Rattle.c_type.specs.Names.{at_or}
 use Rattle.c_type.specs.Of.{type_of, members_of, tag_of}
-use Rattle.c_tree.specs.Context.{no_member}
-use Rattle.c_tree.specs.RuleDecls.{member_off}
+use Rattle.c_type.specs.Sizes.{no_member}
+use Rattle.c_rule.specs.RuleDecls.{member_off}
 use Rattle.c_constant.proofs.Offsets.{off_read}
 use Rattle.c_constant.proofs.address.member_off.Goals as goal
 

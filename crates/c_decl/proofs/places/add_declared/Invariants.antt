@@ -1,6 +1,6 @@
 use Rattle.std.proofs.Common.{◌≡◌, ◌++◌, drop, map}
 use Rattle.c_tree.specs.TreeOf.{declr_of}
-use Rattle.c_tree.specs.WrittenDeclr.{declared}
+use Rattle.c_tree.specs.TreeDecl.{declared}
 use Rattle.c_expr.specs.Typedefs.{names_of}
 use Rattle.c_decl.proofs.places.add_declared.Given as goal
 

@@ -1,5 +1,5 @@
 use Rattle.std.proofs.Common.{◌≡◌, ◌++◌, drop, map}
-use Rattle.c_tree.specs.WrittenType.{occurrences}
+use Rattle.c_grammar.specs.WrittenType.{occurrences}
 use Rattle.c_decl.specs.WordsOf.{type_word_of, words_of}
 use Rattle.c_decl.proofs.spelling.add_each.Given as goal
 

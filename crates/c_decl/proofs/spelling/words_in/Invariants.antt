@@ -1,5 +1,5 @@
 use Rattle.std.proofs.Common.{◌≡◌, drop, map}
-use Rattle.c_tree.specs.WrittenType as t
+use Rattle.c_grammar.specs.WrittenType as t
 use Rattle.c_decl.specs.WordsOf.{type_part_of, words_of}
 use Rattle.c_decl.proofs.Spelled.{with_words}
 use Rattle.c_decl.proofs.spelling.words_in.Given as goal

@@ -2,7 +2,7 @@ use Rattle.std.proofs.Common.{◌≡◌, ◌-◌, ℕ, length, map, drop, Result
 use Rattle.std.proofs.lemmas.Result.{err_from_is_err_and}
 use Rattle.std.proofs.lemmas.List.{length-map}
 use Rattle.c_tree.specs.TreeOf.{expr_of}
-use Rattle.c_tree.specs.Reads.{IsExprAt}
+use Rattle.c_grammar.specs.Reads.{IsExprAt}
 use Rattle.c_lex.specs.Shown.{token_of}
 use Rattle.c_expr.specs.declared.error.ParseErr.{ParseErr}
 use Rattle.c_expr.specs.declared.rest.Found.{Found}

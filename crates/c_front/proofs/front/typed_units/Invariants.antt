@@ -2,7 +2,7 @@
 use Rattle.std.proofs.Common.{◌≡◌, take, map}
 use Rattle.std.specs.List.{AllZip}
 use Rattle.c_tree.specs.TypedOf as typed
-use Rattle.c_tree.specs.RuleUnit.{IsTyped}
+use Rattle.c_rule.specs.RuleUnit.{IsTyped}
 use Rattle.c_front.specs.Sources.{units_of}
 use Rattle.c_front.proofs.front.typed_units.Given as goal
 

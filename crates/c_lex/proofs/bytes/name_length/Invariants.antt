@@ -1,5 +1,5 @@
 use Rattle.std.proofs.Common.{◌≡◌, ◌+◌, drop}
-use Rattle.c_type.specs.Bytes.{is_name_byte}
+use Rattle.c_lex.specs.Bytes.{is_name_byte}
 use Rattle.c_lex.specs.Reading.{run_length}
 use Rattle.c_lex.proofs.bytes.name_length.Given as goal
 

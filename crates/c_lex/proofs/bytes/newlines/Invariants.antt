@@ -1,5 +1,5 @@
 use Rattle.std.proofs.Common.{◌≡◌, ◌≤◌, ◌+◌, drop}
-use Rattle.c_type.specs.Bytes.{newlines}
+use Rattle.c_lex.specs.Bytes.{newlines}
 use Rattle.c_lex.proofs.bytes.newlines.Given as goal
 
 abbrev pub invariant-loop-byte : goal.invariant-loop-byte

@@ -1,5 +1,5 @@
 use Rattle.std.proofs.Common.{◌≡◌, drop, map}
-use Rattle.c_type.specs.Pieces.{word_from}
+use Rattle.c_lex.specs.Pieces.{word_from}
 use Rattle.c_lex.proofs.marks.place_in.Given as goal
 
 abbrev pub invariant-loop-word : goal.invariant-loop-word

@@ -1,6 +1,6 @@
 use Rattle.std.proofs.Common.{◌≡◌, ◌<◌, ◌≤◌, ◌+◌, ◌-◌, length, take, map, [], ◌++◌, sym, subst, arith}
 use Rattle.std.proofs.lemmas.List.{length-take-le}
-use Rattle.c_type.specs.Falls.{with_token}
+use Rattle.c_lex.specs.Falls.{with_token}
 use Rattle.c_lex.specs.Shown.{token_of, shown}
 use Rattle.c_lex.specs.Refusals.{Refuses, HasRead}
 use Rattle.c_lex.proofs.Shows.{piece_at, refused_at}

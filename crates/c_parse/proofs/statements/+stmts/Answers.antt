@@ -1,5 +1,5 @@
 use Rattle.std.proofs.Common.{◌+◌, ◌-◌, length, Some, arith, ap, sym, ◌∙◌}
-use Rattle.c_tree.specs.Words.{close_brace}
+use Rattle.c_grammar.specs.Words.{close_brace}
 use Rattle.c_tree.specs.TreeStmt as tree
 use Rattle.c_tree.specs.TreeOf.{expr_of, stmt_of, sw_item_of, sw_items_from}
 use Rattle.c_tree.proofs.Of.{stmt_of-Block, stmt_of-Switch}

@@ -1,5 +1,5 @@
 use Rattle.std.proofs.Common.{sym}
-use Rattle.c_tree.specs.Reads.{AreShallow}
+use Rattle.c_grammar.specs.Reads.{AreShallow}
 use Rattle.c_lex.specs.Shown.{tokens_of}
 use Rattle.c_parse.proofs.Answered.{shallow, deep, unit_found, unit_missing, on_not_c}
 use Rattle.c_parse.proofs.units.parse.Goals as goal

@@ -1,6 +1,6 @@
 -- The names differ exactly where those that are left differ, also from those before them.
 use Rattle.std.proofs.Common.{◌≡◌, drop, map}
-use Rattle.c_tree.specs.RuleTags as t
+use Rattle.c_rule.specs.RuleTags as t
 use Rattle.c_scope.proofs.NamesDiffer.{left_differ}
 use Rattle.c_scope.proofs.names.first_again.Given as goal
 

@@ -1,6 +1,6 @@
 -- The scopes that are left decide.
 use Rattle.std.proofs.Common.{◌≡◌, ◌≤◌, length, take}
-use Rattle.c_tree.specs.RuleScope.{in_scopes}
+use Rattle.c_rule.specs.RuleScope.{in_scopes}
 use Rattle.c_scope.specs.EnvOf.{blocks_of}
 use Rattle.c_scope.proofs.scopes.in_blocks.Given as goal
 

@@ -1,7 +1,7 @@
 -- The parameters from that place on are declared.
 use Rattle.std.proofs.Common.{◌≡◌, ◌≤◌, length, drop, map}
 use Rattle.c_tree.specs.TypedOf.{var_of}
-use Rattle.c_tree.specs.RuleUnit as u
+use Rattle.c_rule.specs.RuleUnit as u
 use Rattle.c_scope.specs.EnvOf.{scope_of}
 use Rattle.c_scope.proofs.scopes.parameter_scope.Given as goal
 

@@ -2,8 +2,8 @@ use Rattle.std.proofs.Common.{rules, ◌≡◌, [], ◌∷◌, ◌++◌}
 use Rattle.c_type.specs.Names.{or_default}
 use Rattle.c_type.specs.declared.TagKind.TheVariants as k
 use Rattle.c_tree.specs.TreeOf.{mems_from}
-use Rattle.c_tree.specs.RuleScope.{TagHead}
-use Rattle.c_tree.specs.RuleNames.{tags_in_mems}
+use Rattle.c_rule.specs.RuleScope.{TagHead}
+use Rattle.c_rule.specs.RuleNames.{tags_in_mems}
 use Rattle.c_scope.specs.EnvOf.{heads_of}
 use Rattle.c_scope.proofs.TagsIn.{struct_adds, union_adds}
 use Rattle.c_scope.proofs.tags_in.+tags_in.Goals as goal

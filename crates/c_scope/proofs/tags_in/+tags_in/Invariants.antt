@@ -1,7 +1,7 @@
 -- What was added and what is left is the whole.
 use Rattle.std.proofs.Common.{◌≡◌, ◌++◌, drop}
 use Rattle.c_tree.specs.TreeOf as u
-use Rattle.c_tree.specs.RuleNames as n
+use Rattle.c_rule.specs.RuleNames as n
 use Rattle.c_scope.specs.EnvOf.{heads_of}
 use Rattle.c_scope.proofs.tags_in.+tags_in.Given as goal
 

@@ -2,7 +2,7 @@
 use Rattle.std.proofs.Common.{◌≡◌, ◌++◌, drop, map}
 use Rattle.std.specs.List.{flat_map}
 use Rattle.c_tree.specs.TreeOf as u
-use Rattle.c_tree.specs.RuleNames as n
+use Rattle.c_rule.specs.RuleNames as n
 use Rattle.c_scope.specs.EnvOf.{heads_of}
 use Rattle.c_scope.proofs.tags_in.heads_in.Given as goal
 

@@ -1,7 +1,7 @@
 -- The stars that are left decide.
 use Rattle.std.proofs.Common.{◌≡◌}
 use Rattle.c_type.specs.Of.{type_of}
-use Rattle.c_tree.specs.RuleTypes as r
+use Rattle.c_rule.specs.RuleTypes as r
 use Rattle.c_scope.proofs.words.pointer_to.Given as goal
 
 abbrev pub invariant-loop-left : goal.invariant-loop-left

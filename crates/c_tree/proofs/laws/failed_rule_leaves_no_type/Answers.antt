@@ -1,4 +1,4 @@
-use Rattle.c_tree.proofs.ApartUnit.{unit_apart}
+use Rattle.c_rule.proofs.ApartUnit.{unit_apart}
 use Rattle.c_tree.proofs.laws.failed_rule_leaves_no_type.Goals as goal
 
 pub returns : goal.returns

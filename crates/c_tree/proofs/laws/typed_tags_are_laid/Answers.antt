@@ -1,4 +1,4 @@
-use Rattle.c_tree.proofs.TypedTags.{unit_laid}
+use Rattle.c_rule.proofs.TypedTags.{unit_laid}
 use Rattle.c_tree.proofs.laws.typed_tags_are_laid.Goals as goal
 
 pub returns : goal.returns

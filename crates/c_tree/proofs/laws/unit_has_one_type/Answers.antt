@@ -1,4 +1,4 @@
-use Rattle.c_tree.proofs.OneUnit.{unit_one}
+use Rattle.c_rule.proofs.OneUnit.{unit_one}
 use Rattle.c_tree.proofs.laws.unit_has_one_type.Goals as goal
 
 pub returns : goal.returns

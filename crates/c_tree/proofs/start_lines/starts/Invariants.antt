@@ -2,9 +2,8 @@
 use Rattle.std.proofs.Common.{◌≡◌, ◌++◌, map, drop}
 use Rattle.std.specs.List.{flat_map}
 use Rattle.c_type.specs.Names.{at_or}
-use Rattle.c_tree.specs.Context.{no_unit}
+use Rattle.c_tree.specs.TUnit.{no_unit, funcs_of}
 use Rattle.c_tree.specs.Starts as s
-use Rattle.c_tree.specs.TUnit.{funcs_of}
 use Rattle.c_tree.specs.TypedOf.{ext_of, program_of}
 use Rattle.c_tree.proofs.start_lines.starts.Given as goal
 

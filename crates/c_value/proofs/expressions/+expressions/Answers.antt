@@ -5,13 +5,13 @@ use Rattle.c_type.specs.Of.{type_of}
 use Rattle.c_tree.specs.declared.expr.Expr as source
 use Rattle.c_tree.specs.TreeExpr as t
 use Rattle.c_tree.specs.TreeOf as u
-use Rattle.c_tree.specs.RuleExprs as r
-use Rattle.c_tree.specs.RuleScope.{Is, met, past, meaning_of}
-use Rattle.c_tree.specs.RuleTexts.{texts_in_all}
+use Rattle.c_rule.specs.RuleExprs as r
+use Rattle.c_rule.specs.RuleScope.{Is, met, past, meaning_of}
+use Rattle.c_rule.specs.RuleTexts.{texts_in_all}
 use Rattle.c_tree.proofs.Of.{expr_of-Call}
 use Rattle.c_scope.specs.declared.error.TypeErr.TheVariants.{Memory}
 use Rattle.c_scope.specs.EnvOf.{env_of}
-use Rattle.c_scope.specs.Judging.{judged_args}
+use Rattle.c_rule.specs.Judging.{judged_args}
 use Rattle.c_scope.specs.Says.{Refused, Says}
 use Rattle.c_value.specs.Boxed.{boxed}
 use Rattle.c_value.specs.Arguments.{args_from, name_in, judged_call}

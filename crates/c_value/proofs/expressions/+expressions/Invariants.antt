@@ -1,10 +1,10 @@
 -- What is judged of the arguments that were passed, and the texts that were met in them.
 use Rattle.std.proofs.Common.{◌≡◌, drop}
 use Rattle.c_tree.specs.TreeOf.{exprs_from}
-use Rattle.c_tree.specs.RuleScope.{met}
-use Rattle.c_tree.specs.RuleTexts.{texts_in_all}
+use Rattle.c_rule.specs.RuleScope.{met}
+use Rattle.c_rule.specs.RuleTexts.{texts_in_all}
 use Rattle.c_scope.specs.EnvOf.{env_of}
-use Rattle.c_scope.specs.Judging.{judged_args}
+use Rattle.c_rule.specs.Judging.{judged_args}
 use Rattle.c_value.proofs.Outcomes.{rest_of}
 use Rattle.c_value.proofs.expressions.+expressions.Given as goal
 

@@ -4,7 +4,7 @@ use Rattle.std.proofs.lemmas.Result.{IfOk-weaker}
 use Rattle.c_tree.specs.declared.typed_expr.TExpr.{Call}
 use Rattle.c_tree.specs.TExpr as e
 use Rattle.c_tree.specs.TypedOf.{expr_of}
-use Rattle.c_tree.specs.RuleExprs as r
+use Rattle.c_rule.specs.RuleExprs as r
 use Rattle.c_value.specs.Arguments.{args_from}
 use Rattle.c_value.specs.Boxed.{boxed}
 use Rattle.c_value.proofs.Outcomes.{expr_of-Call}

@@ -1,6 +1,6 @@
 -- Of where it stands the rule asks for the closed tags alone.
 use Rattle.std.proofs.Common.{subst}
-use Rattle.c_tree.specs.RuleExprs as r
+use Rattle.c_rule.specs.RuleExprs as r
 use Rattle.c_value.specs.Boxed.{boxed}
 use Rattle.c_scope.specs.Closed.{closed}
 use Rattle.c_scope.specs.Says.{Says}

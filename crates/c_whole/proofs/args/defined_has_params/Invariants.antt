@@ -1,7 +1,7 @@
 -- What is left decides.
 use Rattle.std.proofs.Common.{◌≡◌, drop}
 use Rattle.std.specs.List.{list_any, filter_map}
-use Rattle.c_tree.specs.JoinChecks as s
+use Rattle.c_join.specs.JoinChecks as s
 use Rattle.c_whole.specs.Facts.{facts_of}
 use Rattle.c_whole.proofs.args.defined_has_params.Given as goal
 

@@ -1,6 +1,6 @@
 use Rattle.std.proofs.Common.{ap, ◌∙◌, ◌++◌, ◌&&◌, not, map}
 use Rattle.std.specs.List.{list_any}
-use Rattle.c_tree.specs.JoinSaid.{fact, declares_static, defines_static}
+use Rattle.c_join.specs.JoinSaid.{fact, declares_static, defines_static}
 use Rattle.c_tree.specs.TypedOf.{unit_of}
 use Rattle.c_whole.specs.Events.{events_of, has_name}
 use Rattle.c_whole.specs.Facts.{facts_of, bodies_of}

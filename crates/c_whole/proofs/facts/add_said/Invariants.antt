@@ -1,6 +1,6 @@
 -- What was added and what is left is the whole.
 use Rattle.std.proofs.Common.{◌≡◌, ◌++◌, map, drop}
-use Rattle.c_tree.specs.JoinSaid as s
+use Rattle.c_join.specs.JoinSaid as s
 use Rattle.c_whole.specs.Events.{events_of}
 use Rattle.c_whole.specs.Facts.{facts_of, bodies_of, lacks}
 use Rattle.c_whole.proofs.facts.add_said.Given as goal

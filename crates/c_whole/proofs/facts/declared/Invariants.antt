@@ -1,7 +1,7 @@
 -- A name was found or is among what is left exactly where it is in the whole.
 use Rattle.std.proofs.Common.{◌≡◌, ◌||◌, ℕ, List, drop}
 use Rattle.std.specs.List.{list_any}
-use Rattle.c_tree.specs.JoinSaid as s
+use Rattle.c_join.specs.JoinSaid as s
 use Rattle.c_whole.specs.Events.{events_of, has_name}
 use Rattle.c_whole.proofs.facts.declared.Given as goal
 

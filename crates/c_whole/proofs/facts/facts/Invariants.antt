@@ -1,6 +1,6 @@
 -- What was added and what is left is the whole.
 use Rattle.std.proofs.Common.{◌≡◌, ◌++◌, map, drop}
-use Rattle.c_tree.specs.JoinSaid as s
+use Rattle.c_join.specs.JoinSaid as s
 use Rattle.c_tree.specs.TypedOf.{unit_of}
 use Rattle.c_whole.specs.Facts.{facts_of}
 use Rattle.c_whole.proofs.facts.facts.Given as goal

@@ -1,6 +1,6 @@
 -- What is left decides.
 use Rattle.std.proofs.Common.{◌≡◌, drop}
-use Rattle.c_tree.specs.JoinChecks as s
+use Rattle.c_join.specs.JoinChecks as s
 use Rattle.c_whole.specs.Types.{classes_of}
 use Rattle.c_whole.specs.Groups.{groups_of, first_group}
 use Rattle.c_whole.proofs.first.first_clash.Given as goal

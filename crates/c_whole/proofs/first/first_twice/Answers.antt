@@ -1,5 +1,5 @@
 use Rattle.std.proofs.Common.{sym, ◌∙◌, arith}
-use Rattle.c_tree.specs.JoinChecks.{is_twice}
+use Rattle.c_join.specs.JoinChecks.{is_twice}
 use Rattle.c_whole.proofs.FirstGroup.{first_hit, first_miss}
 use Rattle.c_whole.proofs.first.first_twice.Goals as goal
 

@@ -1,6 +1,6 @@
 -- What was added and what is left is the whole.
 use Rattle.std.proofs.Common.{◌≡◌, ◌++◌, drop}
-use Rattle.c_tree.specs.JoinSaid as s
+use Rattle.c_join.specs.JoinSaid as s
 use Rattle.c_tree.specs.TypedOf.{stmts_from, items_from}
 use Rattle.c_whole.specs.Events.{events_of}
 use Rattle.c_whole.proofs.in_stmts.+in_stmts.Given as goal

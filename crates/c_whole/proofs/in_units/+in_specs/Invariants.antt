@@ -1,6 +1,6 @@
 -- What was added and what is left is the whole.
 use Rattle.std.proofs.Common.{◌≡◌, ◌++◌, drop}
-use Rattle.c_tree.specs.JoinSaid as s
+use Rattle.c_join.specs.JoinSaid as s
 use Rattle.c_whole.specs.Events.{events_of, mems_from}
 use Rattle.c_whole.proofs.in_units.+in_specs.Given as goal
 

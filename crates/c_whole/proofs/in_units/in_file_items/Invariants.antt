@@ -1,7 +1,7 @@
 -- What was added and what is left is the whole.
 use Rattle.std.proofs.Common.{◌≡◌, ◌++◌, map, drop}
 use Rattle.std.specs.List.{flat_map}
-use Rattle.c_tree.specs.JoinSaid as s
+use Rattle.c_join.specs.JoinSaid as s
 use Rattle.c_tree.specs.TypedOf.{typed_item_of}
 use Rattle.c_whole.specs.Events.{events_of}
 use Rattle.c_whole.proofs.in_units.in_file_items.Given as goal

@@ -1,6 +1,6 @@
 use Rattle.std.proofs.Common.{map, ◌∙◌}
 use Rattle.c_tree.specs.TypedOf.{unit_of}
-use Rattle.c_tree.specs.JoinChecks.{same_class}
+use Rattle.c_join.specs.JoinChecks.{same_class}
 use Rattle.c_whole.specs.Facts.{facts_of}
 use Rattle.c_whole.specs.Groups.{groups_of}
 use Rattle.c_whole.specs.Types.{classes_of}

@@ -2,7 +2,7 @@ use Rattle.std.proofs.Common.{◌≡◌, ◌∙◌, ◌≤◌, [], ap, sym, subs
 use Rattle.std.proofs.lemmas.Result.{IfOk-weaker}
 use Rattle.mach_mem.specs.Addresses.{text_start, statics_start}
 use Rattle.c_tree.specs.Bodies.{BodyAt}
-use Rattle.c_tree.specs.Context.{Linked}
+use Rattle.c_run.specs.Context.{Linked}
 use Rattle.c_tree.specs.TypedOf.{func_of}
 use Rattle.gen_small.specs.Emitted.{end_of}
 use Rattle.gen_small.specs.Placing.{AreRows}

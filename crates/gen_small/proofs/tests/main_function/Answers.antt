@@ -4,7 +4,7 @@ use Rattle.c_type.specs.declared.Kind.TheVariants.{Int}
 use Rattle.c_type.specs.Types.{num}
 use Rattle.c_tree.specs.declared.TBinary.TheVariants.{Add, Sub}
 use Rattle.c_tree.specs.Bodies.{autos_local, autos_stmts, autos}
-use Rattle.c_tree.specs.Context.{putchar_name}
+use Rattle.c_tree.specs.Library.{putchar_name}
 use Rattle.c_tree.specs.Starts.{at, starts_local, starts_stmts, starts_func}
 use Rattle.c_tree.specs.TExpr.{Local, Outer, TExpr, name, int, binary, assign, call, no_args, more_args}
 use Rattle.c_tree.specs.TStmt as t

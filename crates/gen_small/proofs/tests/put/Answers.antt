@@ -7,7 +7,7 @@ use Rattle.c_type.specs.Names.{Name}
 use Rattle.c_tree.specs.declared.Ref.TheVariants as ref
 use Rattle.c_tree.specs.declared.TExpr.{TExpr}
 use Rattle.c_tree.specs.declared.TExpr.TheVariants as tree
-use Rattle.c_tree.specs.Context.{putchar_name}
+use Rattle.c_tree.specs.Library.{putchar_name}
 use Rattle.c_tree.specs.TExpr as x
 use Rattle.c_tree.specs.TypedOf.{expr_of}
 use Rattle.gen_small.proofs.Parts.{args_from, call_is}

@@ -1,5 +1,5 @@
 use Rattle.c_tree.specs.TypedOf.{func_of}
-use Rattle.c_tree.specs.Context.{linked}
+use Rattle.c_run.specs.Context.{linked}
 use Rattle.small_form.specs.SmallForm.{program_of_main}
 use Rattle.c_front.specs.Sources.{texts_of}
 use Rattle.small_build.proofs.MainFits.{main_taken}

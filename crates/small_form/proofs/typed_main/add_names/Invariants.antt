@@ -1,6 +1,6 @@
 use Rattle.std.proofs.Common.{◌≡◌, ◌++◌, map, drop}
 use Rattle.c_tree.specs.TreeOf.{item_of}
-use Rattle.c_tree.specs.WrittenDeclr.{declared}
+use Rattle.c_tree.specs.TreeDecl.{declared}
 use Rattle.small_form.proofs.typed_main.add_names.Given as goal
 
 abbrev pub invariant-loop-item : goal.invariant-loop-item

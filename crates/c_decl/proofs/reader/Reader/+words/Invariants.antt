@@ -1,7 +1,7 @@
 -- Each body holds fewer bodies in one another.
 use Rattle.std.proofs.Common.{◌≡◌, ◌≤◌, ◌+◌, ◌*◌, ◌-◌, map}
 use Rattle.c_tree.specs.TreeDecl.{more_mems}
-use Rattle.c_tree.specs.Reads.{most}
+use Rattle.c_grammar.specs.Reads.{most}
 use Rattle.c_tree.specs.TreeOf.{mem_of}
 use Rattle.c_decl.specs.Answers.{names, rest}
 use Rattle.c_decl.specs.Expression.{expression}

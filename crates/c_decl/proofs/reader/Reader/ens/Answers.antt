@@ -1,7 +1,7 @@
 use Rattle.std.proofs.Common.{sym}
 use Rattle.std.proofs.lemmas.List.{map-append}
 use Rattle.std.proofs.lemmas.Result.{err_from_is_err_and}
-use Rattle.c_tree.specs.Reads.{most}
+use Rattle.c_grammar.specs.Reads.{most}
 use Rattle.c_decl.specs.Answers.{names, rest}
 use Rattle.c_decl.specs.Expression.{expression}
 use Rattle.c_decl.specs.ReadSpecs.{en}

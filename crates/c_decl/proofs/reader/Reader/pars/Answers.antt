@@ -1,8 +1,8 @@
 use Rattle.std.proofs.Common.{◌≡◌, ◌+◌, suc, length, map, arith, sym}
 use Rattle.std.proofs.lemmas.List.{map-append}
 use Rattle.std.proofs.lemmas.Result.{err_from_is_err_and}
-use Rattle.c_tree.specs.Reads.{most}
-use Rattle.c_tree.specs.Words.{open_brace}
+use Rattle.c_grammar.specs.Reads.{most}
+use Rattle.c_grammar.specs.Words.{open_brace}
 use Rattle.c_tree.specs.TreeOf.{par_of}
 use Rattle.c_decl.specs.Answers.{names, rest}
 use Rattle.c_decl.specs.Expression.{expression}

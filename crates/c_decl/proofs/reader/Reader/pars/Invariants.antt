@@ -1,5 +1,5 @@
 use Rattle.std.proofs.Common.{◌≡◌, ◌-◌, map}
-use Rattle.c_tree.specs.Reads.{most}
+use Rattle.c_grammar.specs.Reads.{most}
 use Rattle.c_tree.specs.TreeOf.{par_of}
 use Rattle.c_decl.specs.Answers.{names, rest}
 use Rattle.c_decl.specs.Expression.{expression}

@@ -1,6 +1,6 @@
 use Rattle.std.proofs.Common.{arith, sym, ◌+◌}
 use Rattle.std.proofs.lemmas.Result.{err_from_is_err_and}
-use Rattle.c_tree.specs.Reads.{most}
+use Rattle.c_grammar.specs.Reads.{most}
 use Rattle.c_tree.specs.TreeOf.{declr_of}
 use Rattle.c_decl.specs.Answers.{names, found}
 use Rattle.c_decl.specs.Expression.{expression}

@@ -1,6 +1,6 @@
 use Rattle.std.proofs.Common.{◌≡◌, ◌-◌, ◌+◌}
 use Rattle.c_tree.specs.TreeOf.{declr_of}
-use Rattle.c_tree.specs.Reads.{most}
+use Rattle.c_grammar.specs.Reads.{most}
 use Rattle.c_decl.specs.Answers.{names, rest}
 use Rattle.c_decl.specs.Expression.{expression}
 use Rattle.c_decl.specs.ReadDeclr.{suffixes}

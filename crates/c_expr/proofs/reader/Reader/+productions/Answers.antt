@@ -1,7 +1,7 @@
 use Rattle.std.proofs.Common.{◌≡◌, ◌+◌, ◌-◌, suc, ap, sym, ◌∙◌, arith, length, Some}
 use Rattle.std.proofs.lemmas.Result.{err_from_is_err_and}
 use Rattle.std.proofs.lemmas.List.{length-map}
-use Rattle.c_tree.specs.Words.{binary_level}
+use Rattle.c_grammar.specs.Words.{binary_level}
 use Rattle.c_tree.specs.TreeExpr.{expr_depth}
 use Rattle.c_tree.specs.TreeOf.{expr_of, exprs_from}
 use Rattle.c_lex.specs.Shown.{token_of}

@@ -2,7 +2,7 @@ use Rattle.std.proofs.Common.{rules, ◌≡◌, List, [], ◌∷◌, ◌++◌, a
 use Rattle.std.specs.List.{list_any}
 use Rattle.std.specs.Str.{bytes_eq}
 use Rattle.c_type.specs.Names.{Name}
-use Rattle.c_tree.specs.WrittenType.{is_typedef}
+use Rattle.c_grammar.specs.WrittenType.{is_typedef}
 use Rattle.c_expr.proofs.Indexed.{key_added}
 use Rattle.c_expr.proofs.typedefs.Typedefs.add.Goals as goal
 

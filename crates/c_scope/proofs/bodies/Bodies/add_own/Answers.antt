@@ -2,7 +2,7 @@ use Rattle.std.proofs.Common.{rules, ◌≡◌, List, [], ◌∷◌, ◌++◌, l
 use Rattle.std.specs.Str.{bytes_eq}
 use Rattle.std.proofs.lemmas.List.{map-append, length-map}
 use Rattle.c_type.specs.Names.{pick, or_else}
-use Rattle.c_tree.specs.RuleScope.{body_from}
+use Rattle.c_rule.specs.RuleScope.{body_from}
 use Rattle.c_scope.specs.declared.bodies.Body.{Body}
 use Rattle.c_scope.specs.Entries.{body_of}
 use Rattle.c_scope.proofs.Firsts.{own_added, other_added}

@@ -1,6 +1,6 @@
 -- The names that were taken and those that are left are all.
 use Rattle.std.proofs.Common.{◌≡◌, ◌++◌, drop, map}
-use Rattle.c_tree.specs.RuleNames.{tag_names}
+use Rattle.c_rule.specs.RuleNames.{tag_names}
 use Rattle.c_scope.specs.Entries.{head_of}
 use Rattle.c_scope.proofs.heads.Heads.again.Given as goal
 

@@ -1,7 +1,7 @@
 use Rattle.std.proofs.Common.{rules, ◌≡◌, ℕ, List, map, Some, None, true, false, ap, sym, ◌∙◌}
-use Rattle.c_tree.specs.RuleScope.{Judged, Is, Fails, provided, same_kind, type_of_tag}
+use Rattle.c_rule.specs.RuleScope.{Judged, Is, Fails, provided, same_kind, type_of_tag}
 use Rattle.c_type.specs.declared.TagKind.{TagKind}
-use Rattle.c_tree.specs.RuleScope as r
+use Rattle.c_rule.specs.RuleScope as r
 use Rattle.c_scope.specs.Entries.{head_of}
 use Rattle.c_scope.specs.Places.{head_from}
 use Rattle.c_scope.proofs.Firsts.{tag_by_head, by_head}

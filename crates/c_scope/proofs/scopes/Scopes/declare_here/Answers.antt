@@ -1,8 +1,8 @@
 use Rattle.std.proofs.Common.{rules, arith, ◌≡◌, ℕ, ◌+◌, ◌-◌, ◌<◌, List, ◌∷◌, length, take, get_or, true, false, ap, sym, ◌∙◌}
 use Rattle.std.proofs.lemmas.Grind.{common_steps}
 use Rattle.std.proofs.lemmas.List.{get_or_default}
-use Rattle.c_tree.specs.RuleScope.{Entry, Is}
-use Rattle.c_tree.specs.RuleStmts.{is_free}
+use Rattle.c_rule.specs.RuleScope.{Entry, Is}
+use Rattle.c_rule.specs.RuleStmts.{is_free}
 use Rattle.c_scope.specs.declared.scope.Scope.{Scope}
 use Rattle.c_scope.specs.Entries.{meaning_of}
 use Rattle.c_scope.specs.EnvOf.{env_of, scope_of, blocks_of}

@@ -1,6 +1,6 @@
 use Rattle.std.proofs.Common.{sym, map, ◌∙◌, arith}
 use Rattle.c_tree.specs.TypedOf.{unit_of}
-use Rattle.c_tree.specs.JoinChecks as s
+use Rattle.c_join.specs.JoinChecks as s
 use Rattle.c_whole.specs.Types.{classes_of}
 use Rattle.c_whole.specs.Given.{params_of}
 use Rattle.c_whole.proofs.AnyFact.{any_hit, any_miss}

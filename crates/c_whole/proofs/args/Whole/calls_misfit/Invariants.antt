@@ -2,7 +2,7 @@
 use Rattle.std.proofs.Common.{◌≡◌, map, drop}
 use Rattle.std.specs.List.{list_any}
 use Rattle.c_tree.specs.TypedOf.{unit_of}
-use Rattle.c_tree.specs.JoinChecks as s
+use Rattle.c_join.specs.JoinChecks as s
 use Rattle.c_whole.specs.Facts.{facts_of}
 use Rattle.c_whole.specs.Types.{classes_of}
 use Rattle.c_whole.specs.Given.{params_of}

@@ -1,7 +1,7 @@
 -- A definition that was met and those that are left decide.
 use Rattle.std.proofs.Common.{◌≡◌, ◌+◌, nat_le, count_by, drop}
 use Rattle.c_type.specs.Names.{pick}
-use Rattle.c_tree.specs.JoinChecks as s
+use Rattle.c_join.specs.JoinChecks as s
 use Rattle.c_whole.specs.Facts.{subject_of, facts_of}
 use Rattle.c_whole.proofs.groups.Group.is_twice.Given as goal
 

@@ -1,7 +1,7 @@
 -- The parts agree where the whole types do.
 use Rattle.std.proofs.Common.{◌≡◌}
 use Rattle.c_type.specs.Of.{type_of}
-use Rattle.c_tree.specs.JoinTypes.{agree_by}
+use Rattle.c_join.specs.JoinTypes.{agree_by}
 use Rattle.c_whole.specs.Types.{by_classes, depth}
 use Rattle.c_whole.proofs.types.Between.agree.Given as goal
 

@@ -1,7 +1,7 @@
 use Rattle.std.proofs.Common.{sym, ap, map, ◌∙◌}
 use Rattle.c_type.specs.Of.{tag_of}
-use Rattle.c_tree.specs.JoinTypes.{agree_by}
-use Rattle.c_tree.specs.JoinChecks as s
+use Rattle.c_join.specs.JoinTypes.{agree_by}
+use Rattle.c_join.specs.JoinChecks as s
 use Rattle.c_whole.specs.Events.{args_from}
 use Rattle.c_whole.specs.Types.{by_classes}
 use Rattle.c_whole.specs.Given.{types_of}

@@ -1,6 +1,6 @@
 use Rattle.std.proofs.Common.{rules, sym, map}
 use Rattle.c_type.specs.Of.{tag_of}
-use Rattle.c_tree.specs.JoinTypes.{agree_by}
+use Rattle.c_join.specs.JoinTypes.{agree_by}
 use Rattle.c_whole.specs.Types.{by_classes}
 use Rattle.c_whole.proofs.FitRows.{numbers_differ}
 use Rattle.c_whole.proofs.types.Between.fit_told.Goals as goal

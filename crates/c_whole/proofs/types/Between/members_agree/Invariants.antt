@@ -1,7 +1,7 @@
 -- The members that are left agree where all do.
 use Rattle.std.proofs.Common.{◌≡◌, drop}
 use Rattle.c_type.specs.Of.{members_of}
-use Rattle.c_tree.specs.JoinTypes as s
+use Rattle.c_join.specs.JoinTypes as s
 use Rattle.c_whole.specs.Types.{by_classes}
 use Rattle.c_whole.proofs.types.Between.members_agree.Given as goal
 

@@ -1,7 +1,7 @@
 use Rattle.std.proofs.Common.{sym, ap, ◌∙◌, ◌+◌, ◌++◌, drop, arith}
 use Rattle.std.specs.List.{filter_map}
 use Rattle.std.specs.Option.{option_map}
-use Rattle.c_tree.specs.JoinChecks as s
+use Rattle.c_join.specs.JoinChecks as s
 use Rattle.c_whole.specs.Facts.{fact_of, facts_of}
 use Rattle.c_whole.specs.Types.{classes_of}
 use Rattle.c_whole.specs.Given.{in_unit, first_of}

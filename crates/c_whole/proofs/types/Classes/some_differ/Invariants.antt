@@ -1,7 +1,7 @@
 -- The type that is kept stands for those that were met.
 use Rattle.std.proofs.Common.{◌≡◌, ◌++◌, drop}
 use Rattle.std.specs.List.{filter_map}
-use Rattle.c_tree.specs.JoinChecks as s
+use Rattle.c_join.specs.JoinChecks as s
 use Rattle.c_whole.specs.Facts.{facts_of}
 use Rattle.c_whole.specs.Types.{classes_of}
 use Rattle.c_whole.specs.Given.{first_of}
