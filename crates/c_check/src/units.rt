@@ -8,7 +8,7 @@ ghost use Rattle.c_rule.specs.RuleNames as n;
 ghost use Rattle.c_rule.specs.RuleTags as t;
 ghost use Rattle.c_rule.specs.RuleFailsUnit.{UnitFails};
 ghost use Rattle.c_rule.specs.RuleUnit.{IsTyped};
-ghost use Rattle.c_grammar.specs.WrittenDeclr as w;
+ghost use Rattle.c_tree.specs.TreeDecl as w;
 ghost use Rattle.c_check.specs.Tells.{Tells};
 ghost use Rattle.c_check.specs.UnitParts.{judged_parts, names_in};
 ghost use Rattle.c_scope.specs.EnvOf.{env_of};

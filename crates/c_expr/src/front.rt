@@ -10,6 +10,9 @@ ghost use Rattle.c_expr.specs.Shown.{left};
 use crate::error::ParseErr;
 use crate::places::{COMMA, QUESTION};
 use crate::rest::{Found, Rest};
+use c_grammar::{
+    assignment_operator, binary_level, binary_operator, postfix_operator, prefix_operator,
+};
 use c_lex::{Tok, Token};
 use c_tree::{AssignOp, BinaryOp, StepOp, UnaryOp};
 
@@ -108,7 +111,7 @@ impl<'a> Rest<'a> {
         ensures { option_map (λ x. (x.0, left x.1)) result ≡ f.front_mark unary_of (left self.entry) }
     {
         let (mark, rest) = self.mark()?;
-        Some((UnaryOp::of_mark(mark)?, rest))
+        Some((prefix_operator(mark)?, rest))
     }
 
     /// An operator that stands behind an operand.
@@ -116,7 +119,7 @@ impl<'a> Rest<'a> {
         ensures { option_map (λ x. (x.0, left x.1)) result ≡ f.front_mark step_of (left self.entry) }
     {
         let (mark, rest) = self.mark()?;
-        Some((StepOp::of_mark(mark)?, rest))
+        Some((postfix_operator(mark)?, rest))
     }
 
     /// A binary operator of the level or above.
@@ -124,8 +127,8 @@ impl<'a> Rest<'a> {
         ensures { option_map (λ x. (x.0, left x.1)) result ≡ r.operator_at level (left self.entry) }
     {
         let (mark, rest) = self.mark()?;
-        let op = BinaryOp::of_mark(mark)?;
-        if op.level() < level {
+        let op = binary_operator(mark)?;
+        if binary_level(op) < level {
             return None;
         }
         Some((op, rest))
@@ -139,7 +142,7 @@ impl<'a> Rest<'a> {
             return None;
         }
         let (mark, rest) = self.mark()?;
-        Some((AssignOp::of_mark(mark)?, rest))
+        Some((assignment_operator(mark)?, rest))
     }
 
     /// The tokens behind `?`, where the level allows a choice.

@@ -18,6 +18,7 @@ use crate::places::{CLOSE_ROUND, CLOSE_SQUARE, COLON, COMMA, OPEN_ROUND, SIZEOF}
 use crate::reader::Reader;
 use crate::rest::{Found, FoundArgs, Rest};
 use crate::suffix::{Suffix, suffix_at};
+use c_grammar::binary_level;
 use c_lex::Tok;
 use c_tree::Expr;
 use num_le::Name;
@@ -115,7 +116,7 @@ impl Reader<'_> {
             let Some((op, after)) = found.rest.operator(level) else {
                 return Ok(found);
             };
-            let right = self.expr_at(nested, op.level() + 1, after)?;
+            let right = self.expr_at(nested, binary_level(op) + 1, after)?;
             let depth = 1 + max(found.depth, right.depth);
             let tree = binary(self.alloc, line, op, found.tree, right.tree)?;
             found = grown(tree, depth, right.rest)?;

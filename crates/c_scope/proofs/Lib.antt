@@ -6,8 +6,3 @@ pub mod Laying
 pub mod Blocks
 pub mod Redeclared
 pub mod TagsIn
-pub mod Answers
-pub mod Judges
-pub mod JudgesUnit
-pub mod TypingLaws
-pub mod UnitRows

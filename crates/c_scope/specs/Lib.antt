@@ -1,9 +1,6 @@
-pub mod Judging
-pub mod JudgingUnit
 pub mod Says
 pub mod Closed
 pub mod EnvOf
 pub mod Places
 pub mod Entries
 pub mod Blocks
-pub mod Laws

@@ -17,8 +17,6 @@ mod tags_in;
 mod types;
 mod words;
 
-ghost use Rattle.c_rule.specs.Laws.{IsComplete, IsRefused, IsSound};
-
 pub use again::joined;
 pub use error::TypeErr;
 pub use first::insert_first;
@@ -31,24 +29,3 @@ pub use types::{
     is_scalar, is_sized, target, target_is_sized, wide,
 };
 pub use words::{cast_type, declared_type, is_void, sized_type, spec_or_int, spec_type};
-
-/// What the typing function gives is the unit's typed tree, and a rule that it says to fail fails in the unit.
-pub fn what_is_judged_holds()
-    ensures law { IsSound }
-{
-    // The law is all that is promised.
-}
-
-/// The typed tree of a unit is what the typing function gives.
-pub fn what_is_typed_is_judged()
-    ensures law { IsComplete }
-{
-    // The law is all that is promised.
-}
-
-/// Where a rule fails in a unit, the typing function gives no tree.
-pub fn what_fails_is_refused()
-    ensures law { IsRefused }
-{
-    // The law is all that is promised.
-}

@@ -73,6 +73,10 @@ pub record Program : Type 0 where
   pub units : List TypedUnit
   pub classes : List (List ℕ)
 
+-- what stands for a unit that is not there
+abbrev pub no_unit : TypedUnit
+no_unit = record { tags = []; texts = []; exts = [] }
+
 -- the function bodies of a unit, in textual order
 abbrev pub funcs_of : List TExt → List Func
 funcs_of [] = []

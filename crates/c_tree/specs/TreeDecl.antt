@@ -11,6 +11,13 @@ pub data Declr : Type 0 where
   array : (l : ℕ) (d : Declr) (e : Option Expr) → Declr
   function : (l : ℕ) (d : Declr) (xs : List Name) → Declr
 
+-- the name that is declared
+abbrev pub declared : Declr → Name
+declared (pointer l d) = declared d
+declared (name l x) = x
+declared (array l d e) = declared d
+declared (function l d xs) = declared d
+
 mutual
   pub data Init : Type 0 where
     single : (e : Expr) → Init

@@ -15,18 +15,12 @@ pub use expr::{AssignOp, BinaryOp, Expr, StepOp, TagRef, TypeName, TypeSpec, Una
 pub use stmt::{Block, Stmt, SwItem};
 pub use unit::{Ext, Unit};
 
-// Typed trees, and what is proved of the source machine over them.
-mod laws;
+// Typed trees.
 mod start_lines;
 mod typed_expr;
 mod typed_stmt;
 mod typed_unit;
 
-pub use laws::{
-    each_run_halts, end_is_final, expression_has_one_type, failed_rule_is_one_of_24,
-    failed_rule_leaves_no_type, fuel_is_enough, stop_is_exact, typed_tags_are_laid,
-    unit_has_one_type,
-};
 pub use start_lines::starts;
 pub use typed_expr::{Ref, TBinary, TExpr, TStep, TUnary};
 pub use typed_stmt::{TBlock, TDeclr, TInit, TLocal, TLocalDecl, TStmt, TSwItem};

@@ -6,7 +6,3 @@ pub mod Sizes
 pub mod Members
 pub mod Cells
 pub mod Parts
-pub mod Tokens
-pub mod Bytes
-pub mod Pieces
-pub mod Falls

@@ -17,6 +17,10 @@ up_to a n = (n + (a - 1)) / a * a
 abbrev pub no_tag : Tag
 no_tag = record { name = []; kind = Struct; members = []; size = 0; align = 1 }
 
+-- what stands for a member that is not there
+abbrev pub no_member : Member
+no_member = record { name = []; off = 0; ty = void }
+
 -- each tag that the type holds by value has a number below n
 abbrev pub IsWithin : ℕ → CType → Type 0
 IsWithin n (num k) = Unit {0}

@@ -14,7 +14,8 @@ use Rattle.c_tree.specs.TUnit.{Func}
 use Rattle.c_run.specs.Context.{linked}
 use Rattle.gen_small.specs.Items.{Name, Item, Start, Open, Op, Label, Goto, If, CallTo}
 use Rattle.gen_small.specs.Emitted.{width, item_bytes, emitted}
-use Rattle.gen_small.specs.Whole.{whole_code, label_in, base, text_of}
+use Rattle.mach_mem.specs.Addresses.{text_start}
+use Rattle.gen_small.specs.Whole.{whole_code, label_in, text_of}
 use Rattle.gen_small.proofs.Weighed.{size, whole_size}
 use Rattle.small_build.specs.SmallText.{AreSmallTokens, IsSmallText, are_few, AreSmallTexts}
 use Rattle.small_form.specs.SmallForm.{small_main, program_of_main}
@@ -111,6 +112,6 @@ code_of texts f code s is =
     let taken = main_taken s.text f s.small in
     let w = linked (program_of_main f) in
     let whole = whole_size w 0 (record { unit = 0; func = f }) taken.form in
-    let len = emitted_size (label_in (whole_code w 0 (record { unit = 0; func = f }))) base (whole_code w 0 (record { unit = 0; func = f })) in
+    let len = emitted_size (label_in (whole_code w 0 (record { unit = 0; func = f }))) text_start (whole_code w 0 (record { unit = 0; func = f })) in
     let light = taken.form.short in
     record { main = f; small = s; code_is = is; fits = omega (arith, ap length is, len, whole, light) }

@@ -1,0 +1,9 @@
+pub mod Words
+pub mod WrittenType
+pub mod WrittenExpr
+pub mod WrittenDeclr
+pub mod WrittenSpecs
+pub mod WrittenDecl
+pub mod WrittenStmt
+pub mod WrittenUnit
+pub mod Reads

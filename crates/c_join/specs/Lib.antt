@@ -1,0 +1,3 @@
+pub mod JoinSaid
+pub mod JoinTypes
+pub mod JoinChecks

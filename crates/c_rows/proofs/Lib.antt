@@ -1,0 +1,9 @@
+mod Seen
+mod ExprRows
+mod UnitRows
+mod MachineRows
+mod LeavesRows
+mod EvaluationRows
+mod RuleRows
+mod JudgedRows
+mod UnitTyped

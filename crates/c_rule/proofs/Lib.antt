@@ -1,0 +1,13 @@
+pub mod OneExpr
+pub mod OneDecl
+pub mod OneStmt
+pub mod OneUnit
+pub mod ApartStmt
+pub mod ApartUnit
+pub mod RuleNumbers
+pub mod LaidTags
+pub mod TypedTags
+pub mod Answers
+pub mod Judges
+pub mod JudgesUnit
+pub mod TypingLaws

@@ -1,0 +1,17 @@
+pub mod RuleTexts
+pub mod RuleScope
+pub mod RuleTypes
+pub mod RuleValues
+pub mod RuleExprs
+pub mod RuleTree
+pub mod RuleDecls
+pub mod RuleStmts
+pub mod RuleTags
+pub mod RuleNames
+pub mod RuleUnit
+pub mod RuleFails
+pub mod RuleFailsUnit
+pub mod Rules
+pub mod Judging
+pub mod JudgingUnit
+pub mod Laws

@@ -1,0 +1,14 @@
+pub mod Mentions
+pub mod Lasting
+pub mod Values
+pub mod State
+pub mod Context
+pub mod Pointers
+pub mod Exprs
+pub mod Stmts
+pub mod Calls
+pub mod Run
+pub mod Scope
+pub mod Place
+pub mod Numbers
+pub mod Laws

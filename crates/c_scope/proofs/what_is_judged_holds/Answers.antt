@@ -1,5 +1,0 @@
-use Rattle.c_rule.proofs.TypingLaws.{is_sound}
-use Rattle.c_scope.proofs.what_is_judged_holds.Goals as goal
-
-pub returns : goal.returns
-returns c = record { law = is_sound }

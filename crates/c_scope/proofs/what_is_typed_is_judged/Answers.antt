@@ -1,5 +1,0 @@
-use Rattle.c_rule.proofs.TypingLaws.{is_complete}
-use Rattle.c_scope.proofs.what_is_typed_is_judged.Goals as goal
-
-pub returns : goal.returns
-returns c = record { law = is_complete }
