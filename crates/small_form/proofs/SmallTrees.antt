@@ -32,7 +32,7 @@ use Rattle.c_tree.specs.TreeStmt.{stmt_depth, stmts_depth, block_depth}
 use Rattle.c_tree.specs.TreeOf as u
 use Rattle.c_tree.specs.TypedOf as o
 use Rattle.name_set.specs.Different.{place_in}
-use Rattle.small_form.specs.SmallForm.{argument_in, is_putchar, putchar, called, action_in, as_stmt, stmt_in, stmts_in, followed, stmt_starts}
+use Rattle.small_form.specs.SmallForm.{argument_in, is_putchar, putchar, called, put_in, action_in, as_stmt, stmt_in, stmts_in, followed, stmt_starts}
 
 -- the place of a name is a place of the list
 pub place_below : (ns : List Name) (x : Name) (i : ℕ) → place_in ns x ≡ Some i → i < length ns
@@ -75,13 +75,11 @@ no_argument ns [] other = refl
 no_argument ns (a ∷ []) other = absurd (other refl)
 no_argument ns (a ∷ b ∷ es) other = refl
 
-pub action_call : (ns : List Name) (e : Expr) (l : ℕ) (f : Box Expr Global) (es : Vec Expr Global) (g : Expr) (xs : List Expr) (b : Bool)
-    → e ≡ ve.Call l f es → g ≡ f.value → xs ≡ es.items → b ≡ is_putchar (u.expr_of g) → b ≡ true → action_in ns (u.expr_of e) ≡ called (argument_in ns (u.exprs_from xs))
-action_call ns e l f es g xs b is at same put holds =
-    let named : is_putchar (u.expr_of f.value) ≡ true = ap (λ z. is_putchar (u.expr_of z)) (sym at) ∙ sym put ∙ holds in
+pub action_call : (ns : List Name) (e : Expr) (l : ℕ) (f : Box Expr Global) (es : Vec Expr Global) (g : Expr) (xs : List Expr)
+    → e ≡ ve.Call l f es → g ≡ f.value → xs ≡ es.items → action_in ns (u.expr_of e) ≡ put_in ns (u.expr_of g) (u.exprs_from xs)
+action_call ns e l f es g xs is at same =
     ap (λ z. action_in ns (u.expr_of z)) is ∙ ap (action_in ns) (expr_of-Call l f es)
-    ∙ ap (λ t. pick t (called (argument_in ns (u.exprs_from es.items))) None) named
-    ∙ ap (λ z. called (argument_in ns (u.exprs_from z))) (sym same)
+    ∙ ap (λ z. put_in ns (u.expr_of z) (u.exprs_from es.items)) (sym at) ∙ ap (λ z. put_in ns (u.expr_of g) (u.exprs_from z)) (sym same)
 
 -- what is refused inside is refused
 pub handed_on : {X Y Z : Type 0} (view : X → Z) (r : Result X Fault) (e : Fault) (inner : Option Y) (whole : Option Z) → (y : Fault) × (r ≡ Err y) × (y ≡ e)

@@ -87,10 +87,14 @@ abbrev pub argument_in : List Name → u.Exprs → Option TExpr
 argument_in ns (u.more_exprs e u.no_exprs) = sum_in ns e
 argument_in ns _ = None
 
+-- `putchar ( E )`
+abbrev pub put_in : List Name → u.Expr → u.Exprs → Option TExpr
+put_in ns f es = pick (is_putchar f) (called (argument_in ns es)) None
+
 -- `name = E` or `putchar ( E )`
 abbrev pub action_in : List Name → u.Expr → Option TExpr
 action_in ns (u.assign l Set a b) = assigned (variable_in ns a) (sum_in ns b)
-action_in ns (u.call l f es) = pick (is_putchar f) (called (argument_in ns es)) None
+action_in ns (u.call l f es) = put_in ns f es
 action_in ns _ = None
 
 -- a start of line l, if the line is small enough

@@ -90,6 +90,14 @@ fn sum_of(op: BinaryOp) -> Option<TBinary>
     }
 }
 
+// The tree of a sum.
+fn joined(alloc: Global, op: TBinary, left: TExpr, right: TExpr) -> Result<TExpr, Fault>
+    ensures { Gives t.expr_of result (s.joined (Some op) (Some (t.expr_of left)) (Some (t.expr_of right))) }
+{
+    let left = Box::new(alloc, left)?;
+    Ok(TExpr::Binary(int(), op, left, Box::new(alloc, right)?))
+}
+
 fn sum(alloc: Global, variables: &NameSet, e: &Expr) -> Result<TExpr, Fault>
     requires { length variables.now ≤ 131072 }
     ensures { Gives t.expr_of result (s.sum_in variables.now (u.expr_of e.now)) }
@@ -103,7 +111,7 @@ fn sum(alloc: Global, variables: &NameSet, e: &Expr) -> Result<TExpr, Fault>
             };
             let a = sum(alloc, variables, a)?;
             let b = sum(alloc, variables, b)?;
-            Ok(TExpr::Binary(int(), op, Box::new(alloc, a)?, Box::new(alloc, b)?))
+            joined(alloc, op, a, b)
         }
         Expr::Comma(..)
         | Expr::Assign(..)
@@ -170,24 +178,44 @@ fn argument(alloc: Global, variables: &NameSet, es: &[Expr]) -> Result<TExpr, Fa
     sum(alloc, variables, &es[0])
 }
 
+// The tree of an assignment.
+fn assigned(alloc: Global, target: TExpr, value: TExpr) -> Result<TExpr, Fault>
+    ensures { Gives t.expr_of result (s.assigned (Some (t.expr_of target)) (Some (t.expr_of value))) }
+{
+    let target = Box::new(alloc, target)?;
+    Ok(TExpr::Assign(int(), target, Box::new(alloc, value)?))
+}
+
+// `name = E`.
+fn assignment(alloc: Global, variables: &NameSet, a: &Expr, b: &Expr) -> Result<TExpr, Fault>
+    requires { length variables.now ≤ 131072 }
+    ensures { Gives t.expr_of result (s.assigned (s.variable_in variables.now (u.expr_of a.now)) (s.sum_in variables.now (u.expr_of b.now))) }
+{
+    let target = target(variables, a)?;
+    let value = sum(alloc, variables, b)?;
+    assigned(alloc, target, value)
+}
+
+// `putchar ( E )`.
+fn put(alloc: Global, variables: &NameSet, f: &Expr, es: &[Expr]) -> Result<TExpr, Fault>
+    requires { length variables.now ≤ 131072 }
+    ensures { Gives t.expr_of result (s.put_in variables.now (u.expr_of f.now) (u.exprs_from es.now)) }
+{
+    if !is_putchar(f) {
+        return Err(Fault::Unbuilt);
+    }
+    let argument = argument(alloc, variables, es)?;
+    call(alloc, argument)
+}
+
 // `name = E` or `putchar ( E )`.
 fn action(alloc: Global, variables: &NameSet, e: &Expr) -> Result<TExpr, Fault>
     requires { length variables.now ≤ 131072 }
     ensures { Gives t.expr_of result (s.action_in variables.now (u.expr_of e.now)) }
 {
     match e {
-        Expr::Assign(_, AssignOp::Set, a, b) => {
-            let a = target(variables, a)?;
-            let b = sum(alloc, variables, b)?;
-            Ok(TExpr::Assign(int(), Box::new(alloc, a)?, Box::new(alloc, b)?))
-        }
-        Expr::Call(_, f, es) => {
-            if !is_putchar(f) {
-                return Err(Fault::Unbuilt);
-            }
-            let argument = argument(alloc, variables, es)?;
-            call(alloc, argument)
-        }
+        Expr::Assign(_, AssignOp::Set, a, b) => assignment(alloc, variables, a, b),
+        Expr::Call(_, f, es) => put(alloc, variables, f, es),
         _ => Err(Fault::Unbuilt),
     }
 }

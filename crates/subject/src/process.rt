@@ -3,14 +3,14 @@ ghost use Rattle.std.specs.Prelude.{◌≡◌, ◌≤◌, ◌++◌, ℕ, [], Lis
 ghost use Rattle.mach_exec.specs.System.{Called, argument, called, with_cf};
 ghost use Rattle.mach_exec.specs.Operand.{with_reg};
 ghost use Rattle.mach_exec.specs.Registers.{eax};
-ghost use Rattle.mach_exec.specs.Strings.{is_readable, each_byte, bytes_from};
+ghost use Rattle.mach_exec.specs.Strings.{bytes_from};
 ghost use Rattle.mach_exec.specs.Process.{Process, Goes, advanced};
 ghost use Rattle.outside.specs.Causes.{Rose};
 ghost use Rattle.subject.specs.Output.{Moves, GainsFront};
 ghost use Rattle.subject.specs.Process.{process_at, exit_status, cpu_behind, output_of, by_place, exit_called, transfer_called, read_called, write_called, written, progressed, StopsBefore, StopsWith, Breaks};
 
 use crate::output::Output;
-use mach_exec::{Cpu, Event, step};
+use mach_exec::{Cpu, Event, can_read_all, step};
 use mach_mem::{Mem, Regions, read32};
 use outside::{Failed, Sink};
 
@@ -84,18 +84,6 @@ fn place(cpu: &Cpu, memory: &Regions, descriptor: u32) -> Result<(u32, u32), u32
     } else {
         Err(BAD_DESCRIPTOR)
     }
-}
-
-#[tactic(auto, using(mach_exec::proofs::EachByte::each_byte_steps))]
-fn can_read_all(memory: &Regions, at: u32, count: u32) -> bool
-    ensures { result ≡ each_byte (is_readable memory.now) at count }
-{
-    for k in 0..count {
-        if memory.read8(at.wrapping_add(k)).is_none() {
-            return false;
-        }
-    }
-    true
 }
 
 // Puts out the bytes from a place on.

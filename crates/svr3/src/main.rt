@@ -3,8 +3,19 @@
 
 use outside::put_all;
 use real_io::{RealFiles, RealSink, RealSource};
+use std::env::Env;
 use std::process::ExitCode;
-use top::{status, svr3, unread, words_of};
+use std::{env, io};
+use top::{Words, status, svr3, unread};
+
+// The words of the command line, but for the program's own name.
+fn words_of<R: Env + AllocGlobal>(rt: &R) -> io::Result<Words> {
+    let mut words = Words::new(rt.alloc());
+    for word in env::args(rt)?.skip(1) {
+        words.push(word.as_str().as_bytes())?;
+    }
+    Ok(words)
+}
 
 fn main(rt: HostRuntime) -> ExitCode {
     let mut err = RealSink::new(rt.stderr());

@@ -15,4 +15,4 @@ mod words;
 
 pub use answer::{End, Refusal, status, unread};
 pub use call::svr3;
-pub use words::{Request, Words, asked, names_c_file, words_of};
+pub use words::{Request, Words, asked, names_c_file};

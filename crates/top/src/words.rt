@@ -9,9 +9,6 @@ ghost use Rattle.top.specs.Asked.{Asks};
 use name_set::NameSet;
 use num_le::Name;
 use std::alloc::{AllocError, Global};
-use std::env;
-use std::env::Env;
-use std::io;
 use std::marker::Model;
 
 /// A list of words, each some bytes.
@@ -66,15 +63,6 @@ impl Words {
             Some(word) => Some(word.as_slice()),
         }
     }
-}
-
-/// The words of the command line, but for the program's own name.
-pub fn words_of<R: Env + AllocGlobal>(rt: &R) -> io::Result<Words> {
-    let mut words = Words::new(rt.alloc());
-    for word in env::args(rt)?.skip(1) {
-        words.push(word.as_str().as_bytes())?;
-    }
-    Ok(words)
 }
 
 fn is_file(b: u8) -> bool
