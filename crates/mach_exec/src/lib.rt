@@ -18,6 +18,3 @@ mod transfer;
 
 pub use processor::{Cpu, Event, step};
 pub use strings::can_read_all;
-
-#[cfg(test)]
-mod tests;
