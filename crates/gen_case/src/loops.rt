@@ -24,6 +24,9 @@ use num_le::Name;
 use std::alloc::{AllocError, Global};
 use std::test::Fail;
 
+// The bytes of .text that fit below the statics.
+const TEXT_ROOM: usize = 0x3F_0000;
+
 fn int() -> CType
     ensures { type_of result ≡ num Int }
 {
@@ -193,7 +196,7 @@ fn run(
 fn a_loop_writes_and_main_gives_the_status(rt: HostRuntime) -> Result<(), Fail> {
     let main = main_function(rt.alloc())?;
     let text = small_text(rt.alloc(), 0, &main)?;
-    assert!(rt; text.len() <= 0x3F_0000);
+    assert!(rt; text.len() <= TEXT_ROOM);
     let mut output = Vec::new(rt.alloc());
     let status = run(&text, 200, &mut output, rt.alloc())?;
     assert_eq!(rt; output.as_slice(), b"cba".as_slice());

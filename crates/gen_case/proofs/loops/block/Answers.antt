@@ -1,13 +1,8 @@
 use Rattle.std.proofs.Common.{[], ◌∙◌, ap, map}
 use Rattle.c_tree.specs.TStmt as s
 use Rattle.c_tree.specs.TypedOf.{stmts_from, local_decl_of}
-<<<<<<<< HEAD:crates/gen_small/proofs/tests/block/Answers.antt
-use Rattle.gen_small.proofs.StmtParts.{block_is}
-use Rattle.gen_small.proofs.tests.block.Goals as goal
-========
 use Rattle.gen_small.proofs.StmtParts.{block_is}
 use Rattle.gen_case.proofs.loops.block.Goals as goal
->>>>>>>> origin/main:crates/gen_case/proofs/loops/block/Answers.antt
 
 pub returns : goal.returns
 returns c =

@@ -11,19 +11,11 @@ use Rattle.c_tree.specs.TStmt as t
 use Rattle.c_tree.specs.TStmt.{TStmts, locals}
 use Rattle.c_tree.specs.TUnit.{Func}
 use Rattle.c_tree.specs.TypedOf.{func_of, var_of}
-<<<<<<<< HEAD:crates/gen_small/proofs/tests/main_function/Answers.antt
-use Rattle.gen_small.specs.Mains.{AllInt, AllPlain}
-use Rattle.gen_small.specs.Forms.{IsFormStmts, IsNumbered, stmts_weight}
-use Rattle.gen_small.specs.Whole.{IsFormMain}
-use Rattle.gen_small.proofs.Coded.{plain_starts}
-use Rattle.gen_small.proofs.tests.main_function.Goals as goal
-========
 use Rattle.gen_small.specs.Mains.{AllInt, AllPlain}
 use Rattle.gen_small.specs.Forms.{IsFormStmts, IsNumbered, stmts_weight}
 use Rattle.gen_small.specs.Whole.{IsFormMain}
 use Rattle.gen_small.proofs.Coded.{plain_starts}
 use Rattle.gen_case.proofs.loops.main_function.Goals as goal
->>>>>>>> origin/main:crates/gen_case/proofs/loops/main_function/Answers.antt
 
 abbrev n : TExpr
 n = name (num Int) (Local 0)
