@@ -16,9 +16,11 @@ pub struct RealFiles<'a, R> {
 }
 
 impl<'a, R: rt::Files> RealFiles<'a, R> {
+    ghost use Rattle.real_io.specs.Counted.{files_faults};
+
     /// No call has failed yet.
     pub fn new(system: &'a R) -> RealFiles<'a, R>
-        ensures faults { result.faults ≡ 0 }
+        ensures faults { files_faults result ≡ 0 }
     {
         RealFiles { system, faults: 0 }
     }
@@ -107,9 +109,11 @@ pub struct RealSource<R> {
 }
 
 impl<R: Read> RealSource<R> {
+    ghost use Rattle.real_io.specs.Counted.{source_faults};
+
     /// No call has failed yet.
     pub fn new(reader: R) -> RealSource<R>
-        ensures faults { result.faults ≡ 0 }
+        ensures faults { source_faults result ≡ 0 }
     {
         RealSource { reader, faults: 0 }
     }
@@ -139,9 +143,11 @@ pub struct RealSink<W> {
 }
 
 impl<W: Write> RealSink<W> {
+    ghost use Rattle.real_io.specs.Counted.{sink_faults};
+
     /// No call has failed yet.
     pub fn new(writer: W) -> RealSink<W>
-        ensures faults { result.faults ≡ 0 }
+        ensures faults { sink_faults result ≡ 0 }
     {
         RealSink { writer, faults: 0 }
     }

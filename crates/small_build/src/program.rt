@@ -73,7 +73,11 @@ fn main_of(alloc: Global, texts: &[Vec<u8>], sources: &[Source]) -> Result<TFunc
 }
 
 /// The bytes of .text of a program of the small form.
-pub fn text_of(alloc: Global, texts: &[Vec<u8>], sources: &[Source]) -> Result<Vec<u8>, Fault>
+pub(crate) fn text_of(
+    alloc: Global,
+    texts: &[Vec<u8>],
+    sources: &[Source],
+) -> Result<Vec<u8>, Fault>
     requires read { AllZip IsSource (texts_of texts.now) sources.now }
     ensures { Compiles (texts_of texts.now) result }
 {

@@ -38,11 +38,14 @@ use Rattle.top.specs.Lines.{IsNamed, IsOrMemory}
 use Rattle.c_front.specs.Errors.{IsRightErr}
 use Rattle.c_front.specs.declared.FrontErr.{FrontErr}
 use Rattle.c_front.specs.declared.FrontErr.TheVariants as front
-use Rattle.top.specs.Ended.{end_unaccepted, EndsCode, stopped, broken, wanting, EndsTexts, refused, unread, ran}
+use Rattle.small_build.specs.Built.{Builds}
+use Rattle.small_build.specs.declared.BuildErr.{BuildErr}
+use Rattle.small_build.specs.declared.BuildErr.TheVariants as build
+use Rattle.top.specs.Ended.{end_unaccepted, end_unbuilt, EndsCode, stopped, broken, wanting, EndsTexts, refused, unread, ran}
 use Rattle.top.specs.declared.answer.End.{End}
 use Rattle.top.specs.declared.answer.End.TheVariants.{Ran, Signalled, Session, Built, Usage, Absent, TooLarge, Refused, ReadFault, WriteFault, Budget, Memory}
 use Rattle.top.specs.declared.answer.Refusal.{Refusal}
-use Rattle.top.specs.declared.answer.Refusal.TheVariants.{Syntax, Rule, Join}
+use Rattle.top.specs.declared.answer.Refusal.TheVariants.{Syntax, Rule, Join, Unbuilt}
 use Rattle.small_build.proofs.MainFits.{IsTaken, main_taken}
 use Rattle.small_build.proofs.Compiling.{one_main}
 use Rattle.c_front.proofs.Causes.{accepted_syntax, accepted_rule, accepted_join}
@@ -138,11 +141,17 @@ module _ (f : Func) (most : ℕ) (o : Outside) (end : End) where
 -- ---- texts
 
 -- where the front end gives no program
-pub unaccepted_ends : {texts : List (List ℕ)} {most : ℕ} {old : Option (List ℕ)} {before : ℕ} {end : End} (e : FrontErr) → IsRightErr texts e → end ≡ end_unaccepted e → EndsTexts texts most old old before before end
+unaccepted_ends : {texts : List (List ℕ)} {most : ℕ} {old : Option (List ℕ)} {before : ℕ} {end : End} (e : FrontErr) → IsRightErr texts e → end ≡ end_unaccepted e → EndsTexts texts most old old before before end
 unaccepted_ends (front.Syntax k line) right is = refused (Syntax k line) right is refl
 unaccepted_ends (front.Rule k line rule) right is = refused (Rule k line rule) right is refl
 unaccepted_ends (front.Join why) right is = refused (Join why) right is refl
 unaccepted_ends front.Memory right is = unread is refl
+
+-- where texts are not built
+pub unbuilt_ends : {texts : List (List ℕ)} {most : ℕ} {old : Option (List ℕ)} {before : ℕ} {end : End} (e : BuildErr) → Builds texts (Err e) → end ≡ end_unbuilt e → EndsTexts texts most old old before before end
+unbuilt_ends (build.Front e) right is = unaccepted_ends e right is
+unbuilt_ends build.Unbuilt right is = refused Unbuilt right is refl
+unbuilt_ends build.Memory right is = unread is refl
 
 excused_may : (texts : List (List ℕ)) (o : Outside) (end : End) → IsExcused o end → MayEnd texts o end
 excused_may texts o end (inl is) = rw is tt

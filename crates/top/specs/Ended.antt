@@ -10,12 +10,14 @@ use Rattle.small_build.specs.Compiled.{IsCode}
 use Rattle.c_front.specs.Accepted.{IsAccepted}
 use Rattle.top.specs.TextsAnswer.{IsRight}
 use Rattle.top.specs.MachineAnswers.{end_of}
+use Rattle.small_build.specs.declared.BuildErr.{BuildErr}
+use Rattle.small_build.specs.declared.BuildErr.TheVariants as build
 use Rattle.c_front.specs.declared.FrontErr.{FrontErr}
 use Rattle.c_front.specs.declared.FrontErr.TheVariants as front
 use Rattle.top.specs.declared.answer.End.{End}
 use Rattle.top.specs.declared.answer.End.TheVariants.{Refused, WriteFault, Memory}
 use Rattle.top.specs.declared.answer.Refusal.{Refusal}
-use Rattle.top.specs.declared.answer.Refusal.TheVariants.{Syntax, Rule, Join}
+use Rattle.top.specs.declared.answer.Refusal.TheVariants.{Syntax, Rule, Join, Unbuilt}
 
 -- the end where the front end gives no program
 abbrev pub end_unaccepted : FrontErr → End
@@ -23,6 +25,12 @@ end_unaccepted (front.Syntax k line) = Refused (Syntax k line)
 end_unaccepted (front.Rule k line rule) = Refused (Rule k line rule)
 end_unaccepted (front.Join why) = Refused (Join why)
 end_unaccepted front.Memory = Memory
+
+-- the end where texts are not built
+abbrev pub end_unbuilt : BuildErr → End
+end_unbuilt (build.Front e) = end_unaccepted e
+end_unbuilt build.Unbuilt = Refused Unbuilt
+end_unbuilt build.Memory = Memory
 
 -- the process over these bytes has stopped, or the sink failed, or memory was wanting
 pub data EndsCode (code : List ℕ) (most : ℕ) (old new : Option (List ℕ)) (before now : ℕ) (end : End) : Type 0 where

@@ -1,26 +1,22 @@
 // The top call.
 ghost use Rattle.std.specs.Prelude.{◌≡◌, ◌≤◌, length, All};
-ghost use Rattle.std.specs.List.{AllZip};
 ghost use Rattle.mach_mem.specs.Addresses.{text_room};
-ghost use Rattle.c_tree.specs.TypedOf.{program_of};
 ghost use Rattle.top.specs.Answers.{Answers, FilesAnswer};
 ghost use Rattle.top.specs.Lines.{GainsLine, IsOrMemory, line_of};
 ghost use Rattle.top.specs.MachineAnswers.{end_of};
 ghost use Rattle.top.specs.Outside.{outside};
 ghost use Rattle.top.specs.Command.{files_asked};
-ghost use Rattle.top.specs.Ended.{EndsCode, EndsTexts};
-ghost use Rattle.c_front.specs.Accepted.{IsAccepted};
-ghost use Rattle.c_front.specs.Sources.{IsSource, texts_of};
+ghost use Rattle.top.specs.Ended.{EndsCode, EndsTexts, end_unaccepted, end_unbuilt};
+ghost use Rattle.c_front.specs.Sources.{texts_of};
 
 use crate::answer::{End, Refusal};
 use crate::lines::{fixed_line, line};
 use crate::reading::texts;
 use crate::words::{Words, asked};
-use c_front::{Accepted, FrontErr, accept};
+use c_front::FrontErr;
 use num_le::Name;
 use outside::{Files, Sink, Source, put_all};
-use small_build::text_of;
-use small_form::Fault;
+use small_build::{BuildErr, build};
 use std::alloc::Global;
 use subject::{Halt, Stuck, run_text};
 
@@ -47,25 +43,6 @@ fn run_code<S: Sink>(alloc: Global, code: &[u8], most: u64, out: &mut S) -> End
     }
 }
 
-// Runs the program that these texts make.
-fn run_program<S: Sink>(
-    alloc: Global,
-    texts: &[Vec<u8>],
-    program: &Accepted,
-    most: u64,
-    out: &mut S,
-) -> End
-    requires accepted { IsAccepted (texts_of texts.now) (program_of program.now.program) }
-    requires read { AllZip IsSource (texts_of texts.now) program.now.sources.items }
-    ensures end { EndsTexts (texts_of texts.now) most (S.held out.old) (S.held out.new) (S.faults out.old) (S.faults out.new) result }
-{
-    match text_of(alloc, texts, &program.sources) {
-        Ok(code) => run_code(alloc, &code, most, out),
-        Err(Fault::Unbuilt) => End::Refused(Refusal::Unbuilt),
-        Err(Fault::Memory) => End::Memory,
-    }
-}
-
 // The end where texts make no program.
 fn unaccepted(error: FrontErr) -> End
     ensures { result ≡ end_unaccepted error }
@@ -78,15 +55,26 @@ fn unaccepted(error: FrontErr) -> End
     }
 }
 
+// The end where texts are not built.
+fn unbuilt(error: BuildErr) -> End
+    ensures { result ≡ end_unbuilt error }
+{
+    match error {
+        BuildErr::Front(error) => unaccepted(error),
+        BuildErr::Unbuilt => End::Refused(Refusal::Unbuilt),
+        BuildErr::Memory => End::Memory,
+    }
+}
+
 // Runs texts within the limit.
 fn run_texts<S: Sink>(alloc: Global, texts: &[Vec<u8>], most: u64, out: &mut S) -> End
     requires few { length texts.now ≤ 10000 }
     requires short { All (λ t. length t.items ≤ 262144) texts.now }
     ensures end { EndsTexts (texts_of texts.now) most (S.held out.old) (S.held out.new) (S.faults out.old) (S.faults out.new) result }
 {
-    match accept(alloc, texts) {
-        Ok(program) => run_program(alloc, texts, &program, most, out),
-        Err(error) => unaccepted(error),
+    match build(alloc, texts) {
+        Ok(code) => run_code(alloc, &code, most, out),
+        Err(error) => unbuilt(error),
     }
 }
 
