@@ -6,8 +6,8 @@ use Rattle.c_front.specs.Accepted.{IsAccepted}
 use Rattle.c_front.specs.Errors.{IsRightErr}
 use Rattle.small_build.specs.SmallText.{AreSmallTexts}
 use Rattle.small_build.specs.Compiled.{IsCode}
-use Rattle.small_build.specs.declared.build.BuildErr.{BuildErr}
-use Rattle.small_build.specs.declared.build.BuildErr.TheVariants.{Front, Unbuilt, Memory}
+use Rattle.small_build.specs.declared.whole.BuildErr.{BuildErr}
+use Rattle.small_build.specs.declared.whole.BuildErr.TheVariants.{Front, Unbuilt, Memory}
 
 -- the texts make a program, and these are the bytes of .text that are made of it
 pub record IsBuilt (texts : List (List ℕ)) (code : List ℕ) : Type 0 where

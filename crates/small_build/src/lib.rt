@@ -5,7 +5,7 @@
 //! program that they make is that main alone. Code for the whole language takes this crate away.
 #![tactic(auto)]
 
-mod build;
 mod program;
+mod whole;
 
-pub use build::{BuildErr, build};
+pub use whole::{BuildErr, build};

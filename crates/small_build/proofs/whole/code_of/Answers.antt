@@ -1,5 +1,5 @@
 use Rattle.c_tree.specs.TypedOf.{program_of}
-use Rattle.small_build.proofs.build.code_of.Goals as goal
+use Rattle.small_build.proofs.whole.code_of.Goals as goal
 
 pub returns-in-Ok : goal.returns-in-Ok
 returns-in-Ok c = record { program = program_of c.args.program.now.program; accepted = c.requires.accepted; code_is = c.in-Ok.ensures }
