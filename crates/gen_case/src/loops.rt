@@ -1,6 +1,7 @@
 // A program of the small form is made and run.
 ghost use Rattle.std.specs.Prelude.{◌≡◌, ◌≤◌, ◌∷◌, [], Some, IfOk, length, map};
 ghost use Rattle.std.specs.List.{flat_map};
+ghost use Rattle.mach_mem.specs.Addresses.{text_room};
 ghost use Rattle.c_type.specs.declared.Kind.TheVariants.{Int};
 ghost use Rattle.c_type.specs.Of.{type_of};
 ghost use Rattle.c_type.specs.Types.{num};
@@ -11,17 +12,20 @@ ghost use Rattle.c_tree.specs.Library.{putchar_name};
 ghost use Rattle.c_tree.specs.TExpr as x;
 ghost use Rattle.c_tree.specs.TStmt as t;
 ghost use Rattle.c_tree.specs.TypedOf.{expr_of, stmt_of, stmts_from, local_decl_of, func_of};
-ghost use Rattle.gen_expr.specs.Mains.{AllPlain};
-ghost use Rattle.gen_expr.specs.Whole.{IsFormMain};
+ghost use Rattle.gen_small.specs.Mains.{AllPlain};
+ghost use Rattle.gen_small.specs.Whole.{IsFormMain};
 
 use c_tree::{Ref, TBinary, TBlock, TDeclr, TExpr, TFunc, TLocal, TLocalDecl, TStmt};
 use c_type::{CType, Kind};
-use gen_expr::small_text;
+use gen_small::small_text;
 use mach_exec::{Cpu, Event, step};
 use mach_mem::{Mem, Regions, read32};
 use num_le::Name;
 use std::alloc::{AllocError, Global};
 use std::test::Fail;
+
+// The bytes of .text that fit below the statics.
+const TEXT_ROOM: usize = 0x3F_0000;
 
 fn int() -> CType
     ensures { type_of result ≡ num Int }
@@ -170,7 +174,7 @@ fn run(
     output: &mut Vec<u8>,
     alloc: Global,
 ) -> Result<Option<u32>, AllocError>
-    requires fits { length text.now ≤ 4128768 }
+    requires fits { length text.now ≤ text_room }
 {
     let mut memory = Regions::new(alloc, text, &[], 0)?;
     let mut cpu = started();
@@ -192,7 +196,7 @@ fn run(
 fn a_loop_writes_and_main_gives_the_status(rt: HostRuntime) -> Result<(), Fail> {
     let main = main_function(rt.alloc())?;
     let text = small_text(rt.alloc(), 0, &main)?;
-    assert!(rt; text.len() <= 4128768);
+    assert!(rt; text.len() <= TEXT_ROOM);
     let mut output = Vec::new(rt.alloc());
     let status = run(&text, 200, &mut output, rt.alloc())?;
     assert_eq!(rt; output.as_slice(), b"cba".as_slice());

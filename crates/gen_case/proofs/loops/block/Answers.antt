@@ -1,7 +1,7 @@
 use Rattle.std.proofs.Common.{[], ◌∙◌, ap, map}
 use Rattle.c_tree.specs.TStmt as s
 use Rattle.c_tree.specs.TypedOf.{stmts_from, local_decl_of}
-use Rattle.gen_expr.proofs.StmtParts.{block_is}
+use Rattle.gen_small.proofs.StmtParts.{block_is}
 use Rattle.gen_case.proofs.loops.block.Goals as goal
 
 pub returns : goal.returns

@@ -11,10 +11,10 @@ use Rattle.c_tree.specs.TStmt as t
 use Rattle.c_tree.specs.TStmt.{TStmts, locals}
 use Rattle.c_tree.specs.TUnit.{Func}
 use Rattle.c_tree.specs.TypedOf.{func_of, var_of}
-use Rattle.gen_expr.specs.Mains.{AllInt, AllPlain}
-use Rattle.gen_expr.specs.Forms.{IsFormStmts, IsNumbered, stmts_weight}
-use Rattle.gen_expr.specs.Whole.{IsFormMain}
-use Rattle.gen_expr.proofs.Coded.{plain_starts}
+use Rattle.gen_small.specs.Mains.{AllInt, AllPlain}
+use Rattle.gen_small.specs.Forms.{IsFormStmts, IsNumbered, stmts_weight}
+use Rattle.gen_small.specs.Whole.{IsFormMain}
+use Rattle.gen_small.proofs.Coded.{plain_starts}
 use Rattle.gen_case.proofs.loops.main_function.Goals as goal
 
 abbrev n : TExpr

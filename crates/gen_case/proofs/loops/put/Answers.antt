@@ -10,7 +10,7 @@ use Rattle.c_tree.specs.declared.TExpr.TheVariants as tree
 use Rattle.c_tree.specs.Library.{putchar_name}
 use Rattle.c_tree.specs.TExpr as x
 use Rattle.c_tree.specs.TypedOf.{expr_of}
-use Rattle.gen_expr.proofs.Parts.{args_from, call_is}
+use Rattle.gen_small.proofs.Parts.{args_from, call_is}
 use Rattle.gen_case.proofs.loops.put.Goals as goal
 
 put_tree : (t t' : CType) (f : TExpr) (n : Name) (es : List TExpr) (e : TExpr) → type_of t ≡ num Int → type_of t' ≡ num Int → f ≡ tree.Name t' (ref.Outer n) → n ≡ putchar_name → es ≡ e ∷ [] → x.call (type_of t) (expr_of f) (args_from es) ≡ x.call (num Int) (x.name (num Int) (x.Outer putchar_name)) (x.more_args (expr_of e) x.no_args)
