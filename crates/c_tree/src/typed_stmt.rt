@@ -71,9 +71,7 @@ pub struct TLocalDecl {
 
 impl Drop for TLocalDecl {
     fn drop(self) {
-        let TLocalDecl {
-            items: _,
-        } = self;
+        let TLocalDecl { items: _ } = self;
     }
 }
 

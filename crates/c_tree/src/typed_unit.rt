@@ -31,10 +31,7 @@ pub struct TMembers {
 impl Drop for TMembers {
     #[cycle(typed_specs)]
     fn drop(self) {
-        let TMembers {
-            spec: _,
-            declrs: _,
-        } = self;
+        let TMembers { spec: _, declrs: _ } = self;
     }
 }
 
@@ -99,10 +96,7 @@ pub struct TParDecl {
 
 impl Drop for TParDecl {
     fn drop(self) {
-        let TParDecl {
-            spec: _,
-            declrs: _,
-        } = self;
+        let TParDecl { spec: _, declrs: _ } = self;
     }
 }
 

@@ -133,7 +133,11 @@ fn add_said<'a>(
 }
 
 /// The functions of a unit, which says this.
-fn functions_in<'a>(alloc: Global, unit: &'a TypedUnit, events: &[Event<'a>]) -> Result<Functions<'a>, AllocError>
+fn functions_in<'a>(
+    alloc: Global,
+    unit: &'a TypedUnit,
+    events: &[Event<'a>],
+) -> Result<Functions<'a>, AllocError>
     ensures bodies { IfOk result (λ f. bodies_of f.bodies.items ≡ funcs_of (unit_of unit.now).exts) }
     ensures declared { IfOk result (λ f. (x : List ℕ) → has_name f.declared.keys x ≡ list_any (s.declares_static x) (events_of events.now)) }
     ensures defined { IfOk result (λ f. (x : List ℕ) → has_name f.defined.keys x ≡ list_any (s.defines_static x) (events_of events.now)) }
