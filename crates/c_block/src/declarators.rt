@@ -6,7 +6,7 @@ ghost use Rattle.c_rule.specs.RuleScope.{Is};
 ghost use Rattle.c_rule.specs.RuleDecls as r;
 ghost use Rattle.c_rule.specs.RuleStmts.{declr_line};
 ghost use Rattle.c_rule.specs.Judging.{judged_by, judged_derived, judged_declr, with_dimension};
-ghost use Rattle.c_value.specs.Boxed.{boxed};
+ghost use Rattle.c_operator.specs.Boxed.{boxed};
 ghost use Rattle.c_value.specs.Numbers.{number_of};
 ghost use Rattle.c_block.specs.Boxed.{boxed_declr};
 ghost use Rattle.c_scope.specs.EnvOf.{env_of};

@@ -10,7 +10,7 @@ ghost use Rattle.c_rule.specs.RuleDecls as r;
 ghost use Rattle.c_rule.specs.RuleStmts.{past_init};
 ghost use Rattle.c_rule.specs.Judging.{judged_auto_init, judged_begin, judged_init, judged_inits, judged_single};
 ghost use Rattle.c_block.specs.Initialisers.{filled_by, grouped};
-ghost use Rattle.c_value.specs.Boxed.{boxed};
+ghost use Rattle.c_operator.specs.Boxed.{boxed};
 ghost use Rattle.c_scope.specs.EnvOf.{env_of};
 ghost use Rattle.c_scope.specs.Says.{Says, SaysBehind};
 

@@ -10,7 +10,7 @@ ghost use Rattle.c_tree.specs.TUnit as tu;
 ghost use Rattle.c_tree.specs.TypedOf.{declr_of, enumerator_of, spec_of};
 ghost use Rattle.c_rule.specs.RuleScope.{close, past_option, known};
 ghost use Rattle.c_rule.specs.RuleTags as t;
-ghost use Rattle.c_value.specs.Boxed.{boxed};
+ghost use Rattle.c_operator.specs.Boxed.{boxed};
 ghost use Rattle.c_block.specs.Boxed.{boxed_declr};
 ghost use Rattle.c_scope.specs.EnvOf.{env_of};
 ghost use Rattle.c_rule.specs.JudgingUnit as j;

@@ -17,7 +17,7 @@ use Rattle.c_scope.specs.EnvOf.{env_of}
 use Rattle.c_scope.specs.declared.error.TypeErr.{TypeErr}
 use Rattle.c_rule.specs.Judging.{Behind, behind, judged_decls, judged_stmt, judged_stmts, judged_items}
 use Rattle.c_scope.specs.Says.{Refused, SaysBehind}
-use Rattle.c_value.specs.Boxed.{boxed}
+use Rattle.c_operator.specs.Boxed.{boxed}
 use Rattle.c_block.specs.Boxed.{boxed_stmt}
 use Rattle.c_block.specs.PlaceOf.{place_of}
 use Rattle.c_block.specs.SwitchParts.{put, part_of, judged_part}

@@ -8,7 +8,7 @@ use Rattle.c_tree.specs.TExpr.{TExpr}
 use Rattle.c_rule.specs.RuleScope.{Judged, Is, Fails, onward, provided, Env, known, is_sized}
 use Rattle.c_rule.specs.RuleExprs as r
 use Rattle.c_rule.specs.RuleValues.{is_place, used}
-use Rattle.c_value.specs.MemberOf.{found, member_in, pointed}
+use Rattle.c_operator.specs.MemberOf.{found, member_in, pointed}
 
 found_with : (b : Bool) (o : Option (ℕ × CType)) (make : ℕ → CType → TExpr) → provided 3 b (r.with_member o make) ≡ onward (provided 3 b (found o)) (λ p. Is (make p.0 p.1))
 found_with true None make = refl

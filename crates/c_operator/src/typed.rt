@@ -10,7 +10,7 @@ ghost use Rattle.c_rule.specs.RuleValues as v;
 ghost use Rattle.c_tree.specs.TExpr as e;
 ghost use Rattle.c_tree.specs.TypedOf.{expr_of};
 ghost use Rattle.c_scope.specs.Closed.{closed};
-ghost use Rattle.c_value.specs.Taken.{takes_pointer};
+ghost use Rattle.c_operator.specs.Taken.{takes_pointer};
 
 use c_constant::{ExprType, is_zero};
 use c_scope::copy;

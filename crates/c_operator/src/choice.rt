@@ -8,8 +8,8 @@ ghost use Rattle.c_rule.specs.RuleValues as v;
 ghost use Rattle.c_rule.specs.RuleExprs as r;
 ghost use Rattle.c_scope.specs.Closed.{closed};
 ghost use Rattle.c_scope.specs.Says.{Says};
-ghost use Rattle.c_value.specs.Boxed.{boxed};
-ghost use Rattle.c_value.specs.OfValues.{chosen_numbers, choice_of_values};
+ghost use Rattle.c_operator.specs.Boxed.{boxed};
+ghost use Rattle.c_operator.specs.OfValues.{chosen_numbers, choice_of_values};
 
 use crate::operators::meeting_of;
 use crate::typed::{are_alike, are_integers, are_void, is_with_zero, type_of};

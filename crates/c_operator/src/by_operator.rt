@@ -4,7 +4,7 @@ ghost use Rattle.c_type.specs.Of.{tags_of};
 ghost use Rattle.c_rule.specs.RuleExprs as r;
 ghost use Rattle.c_scope.specs.Closed.{closed};
 ghost use Rattle.c_scope.specs.Says.{Says};
-ghost use Rattle.c_value.specs.Boxed.{boxed};
+ghost use Rattle.c_operator.specs.Boxed.{boxed};
 
 use crate::operators::{arithmetic, both, difference, either, equality, order, shift, sum};
 use crate::unary::{address, denial, negation, star, step};

@@ -9,8 +9,8 @@ ghost use Rattle.c_tree.specs.TypedOf.{expr_of};
 ghost use Rattle.c_rule.specs.RuleExprs as r;
 ghost use Rattle.c_scope.specs.Closed.{closed};
 ghost use Rattle.c_scope.specs.Says.{Says};
-ghost use Rattle.c_value.specs.Boxed.{boxed};
-ghost use Rattle.c_value.specs.MemberOf.{held, found, member_in as member_in_rule, pointed as pointed_rule};
+ghost use Rattle.c_operator.specs.Boxed.{boxed};
+ghost use Rattle.c_operator.specs.MemberOf.{held, found, member_in as member_in_rule, pointed as pointed_rule};
 
 use crate::typed::{
     are_pointer_and_integer, is_function, is_function_pointer, target_is_sized, type_of,

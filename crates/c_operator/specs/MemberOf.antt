@@ -6,7 +6,7 @@ use Rattle.c_type.specs.Types.{CType, ptr, struct}
 use Rattle.c_type.specs.Sizes.{no_tag}
 use Rattle.c_rule.specs.RuleScope.{Judged, Is, Fails, provided, Env, known, is_sized}
 use Rattle.c_rule.specs.RuleExprs.{member_from}
-use Rattle.c_value.specs.declared.postfix.Held.{Held}
+use Rattle.c_operator.specs.declared.postfix.Held.{Held}
 
 abbrev pub held : Held → ℕ × CType
 held x = (x.number, type_of x.ty)

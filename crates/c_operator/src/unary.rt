@@ -8,7 +8,7 @@ ghost use Rattle.c_rule.specs.RuleValues as v;
 ghost use Rattle.c_rule.specs.RuleExprs as r;
 ghost use Rattle.c_scope.specs.Closed.{closed};
 ghost use Rattle.c_scope.specs.Says.{Says};
-ghost use Rattle.c_value.specs.Boxed.{boxed};
+ghost use Rattle.c_operator.specs.Boxed.{boxed};
 
 use crate::typed::{
     is_function, is_number, is_object_pointer, is_open, is_sized, is_taken, target_is_sized,

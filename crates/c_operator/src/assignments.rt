@@ -8,8 +8,8 @@ ghost use Rattle.c_rule.specs.RuleValues as v;
 ghost use Rattle.c_rule.specs.RuleExprs as r;
 ghost use Rattle.c_scope.specs.Closed.{closed};
 ghost use Rattle.c_scope.specs.Says.{Says};
-ghost use Rattle.c_value.specs.Boxed.{boxed};
-ghost use Rattle.c_value.specs.OfValues.{assigned_value};
+ghost use Rattle.c_operator.specs.Boxed.{boxed};
+ghost use Rattle.c_operator.specs.OfValues.{assigned_value};
 
 use crate::operators::meeting;
 use crate::typed::{

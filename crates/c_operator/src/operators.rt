@@ -9,8 +9,8 @@ ghost use Rattle.c_rule.specs.RuleExprs as r;
 ghost use Rattle.c_scope.specs.Closed.{closed};
 ghost use Rattle.c_scope.specs.Says.{Says};
 ghost use Rattle.c_type.specs.Types.{num};
-ghost use Rattle.c_value.specs.Boxed.{boxed};
-ghost use Rattle.c_value.specs.OfValues.{sum_of_values, integer_and_pointer, difference_of_values, distance_of, order_of_values, equality_of_values};
+ghost use Rattle.c_operator.specs.Boxed.{boxed};
+ghost use Rattle.c_operator.specs.OfValues.{sum_of_values, integer_and_pointer, difference_of_values, distance_of, order_of_values, equality_of_values};
 
 use crate::typed::{
     are_alike, are_alike_objects, are_integer_and_pointer, are_integers, are_pointer_and_integer,

@@ -7,7 +7,7 @@ ghost use Rattle.c_tree.specs.TExpr as e;
 ghost use Rattle.c_tree.specs.TypedOf.{expr_of};
 ghost use Rattle.c_scope.specs.Closed.{closed};
 ghost use Rattle.c_scope.specs.Says.{Says};
-ghost use Rattle.c_value.specs.Boxed.{boxed};
+ghost use Rattle.c_operator.specs.Boxed.{boxed};
 
 use crate::typed::{has_type, is_integer, is_scalar, is_taken, type_of};
 use c_scope::{TypeErr, copy, wide};
