@@ -45,12 +45,15 @@ kinds_by_type = refl
 
 a_head : head_bytes (record { f_magic = 0x14C; f_nscns = 3; f_timdat = 0; f_symptr = 217; f_nsyms = 15; f_opthdr = 0; f_flags = 0x100 })
     ≡ 0x4C ∷ 1 ∷ 3 ∷ 0 ∷ 0 ∷ 0 ∷ 0 ∷ 0 ∷ 217 ∷ 0 ∷ 0 ∷ 0 ∷ 15 ∷ 0 ∷ 0 ∷ 0 ∷ 0 ∷ 0 ∷ 0 ∷ 1 ∷ []
+unfolding head_bytes
 a_head = refl
 
 a_relocation : reloc_bytes (record { r_vaddr = 6; r_symndx = 14; r_type = 6 }) ≡ 6 ∷ 0 ∷ 0 ∷ 0 ∷ 14 ∷ 0 ∷ 0 ∷ 0 ∷ 6 ∷ 0 ∷ []
+unfolding reloc_bytes
 a_relocation = refl
 
 a_line : line_bytes (record { l_addr = 20; l_lnno = 4 }) ≡ 20 ∷ 0 ∷ 0 ∷ 0 ∷ 4 ∷ 0 ∷ []
+unfolding line_bytes
 a_line = refl
 
 abbrev file_symbol : SymRec
@@ -66,26 +69,33 @@ abbrev w_symbol : SymRec
 w_symbol = record { n_name = 119 ∷ 0 ∷ 0 ∷ 0 ∷ 0 ∷ 0 ∷ 0 ∷ 0 ∷ []; n_value = 24; n_scnum = pos 2; n_type = 4; n_sclass = 2; n_numaux = 0 }
 
 a_symbol : symbol_bytes main_symbol ≡ 109 ∷ 97 ∷ 105 ∷ 110 ∷ 0 ∷ 0 ∷ 0 ∷ 0 ∷ 0 ∷ 0 ∷ 0 ∷ 0 ∷ 1 ∷ 0 ∷ 0x24 ∷ 0 ∷ 2 ∷ 1 ∷ []
+unfolding symbol_bytes
 a_symbol = refl
 
 -- N_DEBUG is -2
 a_debug_symbol : symbol_bytes file_symbol ≡ 46 ∷ 102 ∷ 105 ∷ 108 ∷ 101 ∷ 0 ∷ 0 ∷ 0 ∷ 14 ∷ 0 ∷ 0 ∷ 0 ∷ 254 ∷ 255 ∷ 0 ∷ 0 ∷ 103 ∷ 1 ∷ []
+unfolding symbol_bytes
 a_debug_symbol = refl
 
 it_is_read : symbol_in (symbol_bytes file_symbol) ≡ file_symbol
+unfolding symbol_bytes symbol_in
 it_is_read = refl
 
 an_entry : aux_bytes kinds.Function main_entry ≡ 0 ∷ 0 ∷ 0 ∷ 0 ∷ 23 ∷ 0 ∷ 0 ∷ 0 ∷ 187 ∷ 0 ∷ 0 ∷ 0 ∷ 8 ∷ 0 ∷ 0 ∷ 0 ∷ 0 ∷ 0 ∷ []
+unfolding aux_bytes
 an_entry = refl
 
 the_entry_is_read : aux_in kinds.Function (aux_bytes kinds.Function main_entry) ≡ main_entry
+unfolding aux_bytes aux_in
 the_entry_is_read = refl
 
 dimensions : aux_bytes kinds.Variable (record blank { x_size = 6; x_dimen = 2 ∷ 3 ∷ 0 ∷ 0 ∷ [] }) ≡ 0 ∷ 0 ∷ 0 ∷ 0 ∷ 0 ∷ 0 ∷ 6 ∷ 0 ∷ 2 ∷ 0 ∷ 3 ∷ 0 ∷ 0 ∷ 0 ∷ 0 ∷ 0 ∷ 0 ∷ 0 ∷ []
+unfolding aux_bytes
 dimensions = refl
 
 -- an entry stands behind its symbol
 a_table : symbol_table (main_symbol ∷ w_symbol ∷ []) (main_entry ∷ []) ≡ symbol_bytes main_symbol ++ (aux_bytes kinds.Function main_entry ++ symbol_bytes w_symbol)
+unfolding symbol_bytes aux_bytes
 a_table = refl
 
 the_walk : map (λ s. s.index) (symbols_from [] 0 (main_symbol ∷ w_symbol ∷ []) (main_entry ∷ [])) ≡ 0 ∷ 2 ∷ []

@@ -1,6 +1,6 @@
 -- The bytes of a whole file.
-use Rattle.std.specs.Prelude.{◌≡◌, ◌≤◌, ℕ, List, [], ◌∷◌, ◌++◌, take, drop, length, Option, Some, None}
-use Rattle.std.specs.List.{concat, flat_map, sum_by, AllByRecursion}
+use Rattle.std.specs.Prelude.{◌≡◌, ℕ, List, [], ◌∷◌, ◌++◌, take, drop, length, Option, Some, None}
+use Rattle.std.specs.List.{concat, flat_map, sum_by}
 use Rattle.coff_rec.specs.AuxKinds.{kind_for}
 use Rattle.coff_rec.specs.Records.{head_bytes, opt_bytes, section_bytes, reloc_bytes, line_bytes, symbol_bytes, aux_bytes}
 use Rattle.coff_rec.specs.declared.records.OptHead.{OptHead}
@@ -20,22 +20,23 @@ symbol_table (s ∷ ss) xs =
     ++ (flat_map (aux_bytes (kind_for s.n_sclass s.n_type)) (take s.n_numaux xs)
     ++ symbol_table ss (drop s.n_numaux xs))
 
--- the parts without gaps, in file order
-abbrev pub file_of : Parts → List ℕ
-file_of p = concat (
-    head_bytes p.head
-    ∷ opt_or_none p.opt
-    ∷ flat_map section_bytes p.secs
-    ∷ p.text
+abbrev pub headers_of : Parts → List ℕ
+headers_of p = concat (head_bytes p.head ∷ opt_or_none p.opt ∷ flat_map section_bytes p.secs ∷ [])
+
+-- the bytes of the sections, their relocations and the line entries
+abbrev pub contents_of : Parts → List ℕ
+contents_of p = concat (
+    p.text
     ∷ p.init
     ∷ flat_map reloc_bytes p.text_relocs
     ∷ flat_map reloc_bytes p.init_relocs
     ∷ flat_map line_bytes p.lines
-    ∷ symbol_table p.syms p.auxs
-    ∷ p.strings
     ∷ [])
 
--- each symbol has at most one entry, and there are as many as they ask for
-pub record AreShared (ss : List SymRec) (xs : List AuxRec) : Type 0 where
-  pub one : AllByRecursion (λ s. s.n_numaux ≤ 1) ss
-  pub all : sum_by (λ s. s.n_numaux) ss ≡ length xs
+-- the parts without gaps, in file order
+abbrev pub file_of : Parts → List ℕ
+file_of p = concat (headers_of p ∷ contents_of p ∷ symbol_table p.syms p.auxs ∷ p.strings ∷ [])
+
+-- there are as many entries as the symbols say
+abbrev pub AreShared : List SymRec → List AuxRec → Type 0
+AreShared ss xs = sum_by (λ s. s.n_numaux) ss ≡ length xs

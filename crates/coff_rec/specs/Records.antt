@@ -1,5 +1,5 @@
 -- The records of a file (a.out(4), syms(4), linenum(4)): the bytes of each are its fields in the manual's order, the lowest byte of a number first.
-use Rattle.std.specs.Prelude.{ℕ, ◌+◌, ◌*◌, List, [], ◌∷◌, ◌++◌, take, drop, length}
+use Rattle.std.specs.Prelude.{ℕ, ◌+◌, ◌*◌, List, [], ◌∷◌, ◌++◌, take, drop}
 use Rattle.std.specs.List.{concat, flat_map}
 use Rattle.std.specs.Int.{w16, cast_signed, cast_unsigned}
 use Rattle.byteorder.specs.Endian.{little_bytes}
@@ -14,9 +14,19 @@ use Rattle.coff_rec.specs.declared.entry.AuxRec.{AuxRec}
 use Rattle.coff_rec.specs.declared.entry.AuxKind.{AuxKind}
 use Rattle.coff_rec.specs.declared.entry.AuxKind.TheVariants.{NoEntry, File, Section, Function, Tag, EndOfTag, Body, Block, Variable}
 
+-- ---- bytes at a place
+
+-- the n bytes at this place
+abbrev pub piece : ℕ → ℕ → List ℕ → List ℕ
+piece at n b = take n (drop at b)
+
+-- the file with the bytes p in the n bytes at this place
+abbrev pub with_piece : ℕ → ℕ → List ℕ → List ℕ → List ℕ
+with_piece at n p b = take at b ++ (p ++ drop (at + n) b)
+
 -- ---- the bytes of a record
 
-abbrev pub head_bytes : FileHead → List ℕ
+unfoldable pub head_bytes : FileHead → List ℕ
 head_bytes h = concat (
     little_bytes 2 h.f_magic
     ∷ little_bytes 2 h.f_nscns
@@ -27,7 +37,7 @@ head_bytes h = concat (
     ∷ little_bytes 2 h.f_flags
     ∷ [])
 
-abbrev pub opt_bytes : OptHead → List ℕ
+unfoldable pub opt_bytes : OptHead → List ℕ
 opt_bytes o = concat (
     little_bytes 2 o.magic
     ∷ little_bytes 2 o.vstamp
@@ -39,7 +49,7 @@ opt_bytes o = concat (
     ∷ little_bytes 4 o.data_start
     ∷ [])
 
-abbrev pub section_bytes : SecHead → List ℕ
+unfoldable pub section_bytes : SecHead → List ℕ
 section_bytes s = concat (
     s.s_name
     ∷ little_bytes 4 s.s_paddr
@@ -53,13 +63,13 @@ section_bytes s = concat (
     ∷ little_bytes 4 s.s_flags
     ∷ [])
 
-abbrev pub reloc_bytes : Reloc → List ℕ
+unfoldable pub reloc_bytes : Reloc → List ℕ
 reloc_bytes r = concat (little_bytes 4 r.r_vaddr ∷ little_bytes 4 r.r_symndx ∷ little_bytes 2 r.r_type ∷ [])
 
-abbrev pub line_bytes : LineRec → List ℕ
+unfoldable pub line_bytes : LineRec → List ℕ
 line_bytes l = concat (little_bytes 4 l.l_addr ∷ little_bytes 2 l.l_lnno ∷ [])
 
-abbrev pub symbol_bytes : SymRec → List ℕ
+unfoldable pub symbol_bytes : SymRec → List ℕ
 symbol_bytes s = concat (
     s.n_name
     ∷ little_bytes 4 s.n_value
@@ -70,7 +80,7 @@ symbol_bytes s = concat (
     ∷ [])
 
 -- an auxiliary entry has the fields of its kind, and 0 in its other bytes
-abbrev pub aux_bytes : AuxKind → AuxRec → List ℕ
+unfoldable pub aux_bytes : AuxKind → AuxRec → List ℕ
 aux_bytes NoEntry x = concat (little_bytes 18 0 ∷ [])
 aux_bytes File x = concat (x.x_fname ∷ little_bytes 4 0 ∷ [])
 aux_bytes Section x = concat (little_bytes 4 x.x_scnlen ∷ little_bytes 2 x.x_nreloc ∷ little_bytes 2 x.x_nlinno ∷ little_bytes 10 0 ∷ [])
@@ -83,7 +93,7 @@ aux_bytes Variable x = concat (little_bytes 4 x.x_tagndx ∷ little_bytes 2 0 �
 
 -- ---- the record whose bytes these are
 
-abbrev pub head_in : List ℕ → FileHead
+unfoldable pub head_in : List ℕ → FileHead
 head_in b = record {
   f_magic = field 2 0 b;
   f_nscns = field 2 2 b;
@@ -94,7 +104,7 @@ head_in b = record {
   f_flags = field 2 18 b;
 }
 
-abbrev pub opt_in : List ℕ → OptHead
+unfoldable pub opt_in : List ℕ → OptHead
 opt_in b = record {
   magic = field 2 0 b;
   vstamp = field 2 2 b;
@@ -106,9 +116,9 @@ opt_in b = record {
   data_start = field 4 24 b;
 }
 
-abbrev pub section_in : List ℕ → SecHead
+unfoldable pub section_in : List ℕ → SecHead
 section_in b = record {
-  s_name = take 8 b;
+  s_name = piece 0 8 b;
   s_paddr = field 4 8 b;
   s_vaddr = field 4 12 b;
   s_size = field 4 16 b;
@@ -120,15 +130,15 @@ section_in b = record {
   s_flags = field 4 36 b;
 }
 
-abbrev pub reloc_in : List ℕ → Reloc
+unfoldable pub reloc_in : List ℕ → Reloc
 reloc_in b = record { r_vaddr = field 4 0 b; r_symndx = field 4 4 b; r_type = field 2 8 b }
 
-abbrev pub line_in : List ℕ → LineRec
+unfoldable pub line_in : List ℕ → LineRec
 line_in b = record { l_addr = field 4 0 b; l_lnno = field 2 4 b }
 
-abbrev pub symbol_in : List ℕ → SymRec
+unfoldable pub symbol_in : List ℕ → SymRec
 symbol_in b = record {
-  n_name = take 8 b;
+  n_name = piece 0 8 b;
   n_value = field 4 8 b;
   n_scnum = cast_signed w16 (field 2 12 b);
   n_type = field 2 14 b;
@@ -154,9 +164,9 @@ blank = record {
 }
 
 -- the fields of a kind, and 0 in the others
-abbrev pub aux_in : AuxKind → List ℕ → AuxRec
+unfoldable pub aux_in : AuxKind → List ℕ → AuxRec
 aux_in NoEntry b = blank
-aux_in File b = record blank { x_fname = take 14 b }
+aux_in File b = record blank { x_fname = piece 0 14 b }
 aux_in Section b = record blank { x_scnlen = field 4 0 b; x_nreloc = field 2 4 b; x_nlinno = field 2 6 b }
 aux_in Function b = record blank { x_tagndx = field 4 0 b; x_fsize = field 4 4 b; x_lnnoptr = field 4 8 b; x_endndx = field 4 12 b }
 aux_in Tag b = record blank { x_size = field 2 6 b; x_endndx = field 4 12 b }
@@ -180,13 +190,3 @@ aux_of EndOfTag x = record blank { x_tagndx = x.x_tagndx; x_size = x.x_size }
 aux_of Body x = record blank { x_lnno = x.x_lnno }
 aux_of Block x = record blank { x_lnno = x.x_lnno; x_endndx = x.x_endndx }
 aux_of Variable x = record blank { x_tagndx = x.x_tagndx; x_size = x.x_size; x_dimen = x.x_dimen }
-
--- ---- a record in a file
-
--- the n bytes at this place
-abbrev pub piece : ℕ → ℕ → List ℕ → List ℕ
-piece at n b = take n (drop at b)
-
--- the file with these bytes at this place
-abbrev pub with_piece : ℕ → List ℕ → List ℕ → List ℕ
-with_piece at p b = take at b ++ (p ++ drop (at + length p) b)

@@ -4,8 +4,10 @@
 //! in place (a.out(4), syms(4), linenum(4)). [`symbol_kind`] says what a symbol is where symbols nest.
 #![tactic(auto)]
 
+mod buffer;
 mod codes;
 mod entry;
+mod file;
 mod nesting;
 mod parts;
 mod records;
@@ -16,6 +18,8 @@ pub use codes::{
     C_MOU, C_REG, C_STAT, C_STRTAG, C_TPDEF, C_UNTAG,
 };
 pub use entry::{AuxKind, AuxRec, aux_kind};
+pub use file::whole;
 pub use nesting::{Kind, symbol_kind};
-pub use parts::{AuxRecs, Bytes, Image, LineRecs, Part, Parts, Relocs, SecHeads, SymRecs, Which};
+pub use parts::{Image, Part, Parts, Records, Which};
 pub use records::{FileHead, LineRec, OptHead, Reloc, SecHead, SymRec};
+pub use types::{array_count, derivations_of, has_tag, is_function_type};

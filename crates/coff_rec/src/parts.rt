@@ -1,4 +1,6 @@
 // The parts of a file, and the file that they make.
+ghost use Rattle.std.specs.Prelude.{◌≡◌};
+
 use crate::entry::AuxRec;
 use crate::records::{FileHead, LineRec, OptHead, Reloc, SecHead, SymRec};
 use std::marker::Model;
@@ -23,93 +25,34 @@ pub enum Part {
     Init,
 }
 
-/// A list of bytes.
+/// A list of records, or of bytes.
 #[derive(Debug, Drop)]
-pub struct Bytes {
-    list: Vec<u8>,
+pub struct Records<T> {
+    list: Vec<T>,
 }
 
-impl Model for Bytes {
-    ghost use Rattle.std.specs.Prelude.{List, ℕ};
-
-    ghost Value = { List ℕ };
-
-    ghost view = { λ s. s.list.items };
-}
-
-/// A list of section headers.
-#[derive(Debug, Drop)]
-pub struct SecHeads {
-    list: Vec<SecHead>,
-}
-
-impl Model for SecHeads {
+impl<T> Model for Records<T> {
     ghost use Rattle.std.specs.Prelude.{List};
-    ghost use Rattle.coff_rec.specs.declared.records.SecHead.{SecHead};
 
-    ghost Value = { List SecHead };
-
-    ghost view = { λ s. s.list.items };
-}
-
-/// A list of relocations.
-#[derive(Debug, Drop)]
-pub struct Relocs {
-    list: Vec<Reloc>,
-}
-
-impl Model for Relocs {
-    ghost use Rattle.std.specs.Prelude.{List};
-    ghost use Rattle.coff_rec.specs.declared.records.Reloc.{Reloc};
-
-    ghost Value = { List Reloc };
+    ghost Value = { List T };
 
     ghost view = { λ s. s.list.items };
 }
 
-/// A list of line entries.
-#[derive(Debug, Drop)]
-pub struct LineRecs {
-    list: Vec<LineRec>,
-}
+impl<T> Records<T> {
+    /// The records of this list.
+    pub fn of(list: Vec<T>) -> Records<T>
+        ensures list { result ≡ list.items }
+    {
+        Records { list }
+    }
 
-impl Model for LineRecs {
-    ghost use Rattle.std.specs.Prelude.{List};
-    ghost use Rattle.coff_rec.specs.declared.records.LineRec.{LineRec};
-
-    ghost Value = { List LineRec };
-
-    ghost view = { λ s. s.list.items };
-}
-
-/// A list of symbols.
-#[derive(Debug, Drop)]
-pub struct SymRecs {
-    list: Vec<SymRec>,
-}
-
-impl Model for SymRecs {
-    ghost use Rattle.std.specs.Prelude.{List};
-    ghost use Rattle.coff_rec.specs.declared.records.SymRec.{SymRec};
-
-    ghost Value = { List SymRec };
-
-    ghost view = { λ s. s.list.items };
-}
-
-/// A list of auxiliary entries.
-#[derive(Debug, Drop)]
-pub struct AuxRecs {
-    list: Vec<AuxRec>,
-}
-
-impl Model for AuxRecs {
-    ghost use Rattle.std.specs.Prelude.{List};
-    ghost use Rattle.coff_rec.specs.declared.entry.AuxRec.{AuxRec};
-
-    ghost Value = { List AuxRec };
-
-    ghost view = { λ s. s.list.items };
+    /// The records, in order.
+    pub fn as_slice(&self) -> &[T]
+        ensures list { result.now ≡ self.now }
+    {
+        &self.list
+    }
 }
 
 /// What a file says: its headers, the bytes of .text and .data, their relocations, the line entries,
@@ -118,13 +61,13 @@ impl Model for AuxRecs {
 pub struct Parts {
     pub head: FileHead,
     pub opt: Option<OptHead>,
-    pub secs: SecHeads,
-    pub text: Bytes,
-    pub init: Bytes,
-    pub text_relocs: Relocs,
-    pub init_relocs: Relocs,
-    pub lines: LineRecs,
-    pub syms: SymRecs,
-    pub auxs: AuxRecs,
-    pub strings: Bytes,
+    pub secs: Records<SecHead>,
+    pub text: Records<u8>,
+    pub init: Records<u8>,
+    pub text_relocs: Records<Reloc>,
+    pub init_relocs: Records<Reloc>,
+    pub lines: Records<LineRec>,
+    pub syms: Records<SymRec>,
+    pub auxs: Records<AuxRec>,
+    pub strings: Records<u8>,
 }
