@@ -13,6 +13,7 @@ mod parts;
 mod records;
 mod types;
 
+pub use buffer::part;
 pub use codes::{
     C_ARG, C_AUTO, C_BLOCK, C_EFCN, C_ENTAG, C_EOS, C_EXT, C_FCN, C_FIELD, C_FILE, C_MOE, C_MOS,
     C_MOU, C_REG, C_STAT, C_STRTAG, C_TPDEF, C_UNTAG,
