@@ -5,13 +5,14 @@ use Rattle.coff_rec.specs.AuxKinds.{kind_for}
 use Rattle.coff_rec.specs.Records.{head_bytes, reloc_bytes, line_bytes, symbol_bytes, aux_bytes, aux_in, blank, head_in, symbol_in}
 use Rattle.coff_rec.specs.Symbols.{Symbol, name_of, symbols_from}
 use Rattle.coff_rec.specs.Files.{symbol_table}
-use Rattle.coff_rec.specs.Nesting.{Nested, Around, nested_of, kind_of, tag_end, function_end, block_end, around, is_placed}
+use Rattle.coff_rec.specs.Nesting.{Nested, nested_of, kind_of, tag_end, function_end, block_end, around, is_placed}
 use Rattle.coff_rec.specs.Scopes.{EndsAreScopes}
 use Rattle.coff_rec.specs.declared.records.FileHead.{FileHead}
 use Rattle.coff_rec.specs.declared.records.SymRec.{SymRec}
 use Rattle.coff_rec.specs.declared.entry.AuxRec.{AuxRec}
 use Rattle.coff_rec.specs.declared.entry.AuxKind.{AuxKind}
 use Rattle.coff_rec.specs.declared.entry.AuxKind.TheVariants as kinds
+use Rattle.coff_rec.specs.declared.nesting.Around.{Around}
 use Rattle.coff_rec.specs.declared.nesting.Kind.{Kind}
 use Rattle.coff_rec.specs.declared.nesting.Kind.TheVariants.{Tag, Member, EndOfTag, Function, BodyBegin, BodyEnd, BlockBegin, BlockEnd, Misnamed, Other}
 

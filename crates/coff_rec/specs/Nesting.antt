@@ -6,6 +6,7 @@ use Rattle.coff_rec.specs.AuxKinds.{is_tag, is_global}
 use Rattle.coff_rec.specs.TypeWords.{is_function}
 use Rattle.coff_rec.specs.Symbols.{Symbol}
 use Rattle.coff_rec.specs.declared.codes.TheConstants.{C_BLOCK, C_EOS, C_FCN, C_MOE, C_MOS, C_MOU}
+use Rattle.coff_rec.specs.declared.nesting.Around.{Around}
 use Rattle.coff_rec.specs.declared.nesting.Kind.{Kind}
 use Rattle.coff_rec.specs.declared.nesting.Kind.TheVariants.{Tag, Member, EndOfTag, Function, BodyBegin, BodyEnd, BlockBegin, BlockEnd, Misnamed, Other}
 
@@ -111,12 +112,6 @@ blocks_after BlockEnd before = before - 1
 blocks_after BodyBegin before = 0
 blocks_after BodyEnd before = 0
 blocks_after k before = before
-
-pub record Around : Type 0 where
-  pub tag : Bool
-  pub function : Bool
-  pub body : Bool
-  pub blocks : ℕ
 
 abbrev pub nothing_open : Around
 nothing_open = record { tag = false; function = false; body = false; blocks = 0 }

@@ -20,7 +20,7 @@ pub use codes::{
 };
 pub use entry::{AuxKind, AuxRec, aux_kind};
 pub use file::whole;
-pub use nesting::{Kind, symbol_kind};
+pub use nesting::{Around, Kind, ends_are_scopes, symbol_kind};
 pub use parts::{Image, Part, Parts, Records, Which};
 pub use records::{FileHead, LineRec, OptHead, Reloc, SecHead, SymRec};
-pub use types::{array_count, derivations_of, has_tag, is_function_type};
+pub use types::{array_count, derivations_of, has_tag, is_function_type, is_type_word};

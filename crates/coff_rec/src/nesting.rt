@@ -1,6 +1,7 @@
 // What a symbol is where tags, functions and blocks nest.
-ghost use Rattle.std.specs.Prelude.{◌≡◌};
-ghost use Rattle.coff_rec.specs.Nesting.{kind_in_body, kind_in_block, kind_of};
+ghost use Rattle.std.specs.Prelude.{◌≡◌, ◌<◌, ◌+◌, ◌^◌};
+ghost use Rattle.coff_rec.specs.Scopes.{EndsAreScopes};
+ghost use Rattle.coff_rec.specs.Nesting.{kind_in_body, kind_in_block, kind_of, nothing_open, around_after, blocks_after};
 
 use crate::codes::{
     C_BLOCK, C_ENTAG, C_EOS, C_EXT, C_FCN, C_MOE, C_MOS, C_MOU, C_STAT, C_STRTAG, C_UNTAG,
@@ -24,6 +25,71 @@ pub enum Kind {
     /// A symbol of class C_FCN or C_BLOCK of another name: it has no place.
     Misnamed,
     Other,
+}
+
+/// What is open before a symbol.
+#[derive(Clone, Copy, Debug)]
+pub struct Around {
+    /// The members of a tag may go on.
+    pub tag: bool,
+    /// There is a function that hasn't had its `.bf`.
+    pub function: bool,
+    /// A body is open.
+    pub body: bool,
+    /// How many blocks are open.
+    pub blocks: usize,
+}
+
+impl Around {
+    /// Nothing is open.
+    pub fn nothing() -> Around
+        ensures nothing { result ≡ nothing_open }
+    {
+        Around {
+            tag: false,
+            function: false,
+            body: false,
+            blocks: 0,
+        }
+    }
+
+    /// What is open after a symbol of this kind.
+    pub fn after(self, kind: Kind) -> Around
+        requires few { self.blocks + 1 < 2 ^ 64 }
+        ensures after { result ≡ around_after kind self }
+    {
+        Around {
+            tag: match kind {
+                Kind::Tag => true,
+                Kind::Member => self.tag,
+                _ => false,
+            },
+            function: match kind {
+                Kind::Function => true,
+                Kind::BodyBegin => false,
+                _ => self.function,
+            },
+            body: match kind {
+                Kind::BodyBegin => true,
+                Kind::BodyEnd => false,
+                _ => self.body,
+            },
+            blocks: blocks_then(kind, self.blocks),
+        }
+    }
+}
+
+fn blocks_then(kind: Kind, blocks: usize) -> usize
+    requires few { blocks + 1 < 2 ^ 64 }
+    ensures after { result ≡ blocks_after kind blocks }
+{
+    match kind {
+        Kind::BlockBegin => blocks + 1,
+        Kind::BlockEnd => blocks.saturating_sub(1),
+        Kind::BodyBegin => 0,
+        Kind::BodyEnd => 0,
+        _ => blocks,
+    }
 }
 
 /// What a symbol of this class, name, section and type word is.
@@ -70,3 +136,8 @@ fn block_kind(name: &[u8]) -> Kind
         Kind::Misnamed
     }
 }
+
+/// Where a block ends, by what lies behind its `.bb`, is where whole scopes end.
+pub fn ends_are_scopes()
+    ensures law { EndsAreScopes }
+{}

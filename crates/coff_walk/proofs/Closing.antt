@@ -2,8 +2,9 @@
 use Rattle.std.proofs.Common.{◌≡◌, ℕ, zero, suc, ◌+◌, ◌-◌, ◌<◌, ◌≤◌, List, [], ◌∷◌, map, Option, Some, None, refl, sym, ap, subst, ◌∙◌, arith, ◌⊎◌, ⊎_elim}
 use Rattle.coff_rec.specs.declared.nesting.Kind.{Kind}
 use Rattle.coff_rec.specs.declared.nesting.Kind.TheVariants.{Tag, Member, EndOfTag, Function, BodyBegin, BodyEnd, BlockBegin, BlockEnd, Misnamed, Other}
+use Rattle.coff_rec.specs.Symbols.{Symbol}
 use Rattle.coff_rec.specs.Nesting.{Nested, nested_of, tag_by, tag_end, body_by, body_end, function_by, function_end, block_by, block_end}
-use Rattle.coff_walk.specs.Walk.{Symtab, symbol_at, symbols_after, nested_after, Stands}
+use Rattle.coff_walk.specs.Walk.{Symtab, symbol_at, symbols_after, nested_after, Stands, eos_by, eos_of}
 use Rattle.coff_walk.proofs.Walk.{rises, first_symbol, no_symbol}
 
 pub further : (t : Symtab) (n next : ℕ) (kind : Kind) → Stands t n next kind → n < next
@@ -109,6 +110,36 @@ tag_on {t} {n} {next} {kind} {total} s k so_far = sym (ap (λ k. tag_by k next (
 
 pub tag_out : (t : Symtab) (n : ℕ) {total : Option ℕ} → t.count ≤ n → tag_end (nested_after t n) ≡ total → None ≡ total
 tag_out t n {total} le so_far = sym (ap tag_end (nothing t n le)) ∙ so_far
+
+pub eos_step : {t : Symtab} {n next : ℕ} {kind : Kind} → Stands t n next kind → eos_of (symbols_after t n) ≡ eos_by kind (symbol_at t n) (eos_of (symbols_after t next))
+eos_step {t} {n} {next} {kind} s =
+    ap eos_of (first_symbol t n s.inside)
+    ∙ ap (λ k. eos_by k (symbol_at t n) (eos_of (symbols_after t (symbol_at t n).next))) (sym s.kind_is)
+    ∙ ap (λ m. eos_by kind (symbol_at t n) (eos_of (symbols_after t m))) (sym s.next_is)
+
+pub eos_found : {t : Symtab} {n next : ℕ} {kind : Kind} {total : Option Symbol} → Stands t n next kind → kind ≡ EndOfTag → eos_of (symbols_after t n) ≡ total → total ≡ Some (symbol_at t n)
+eos_found {t} {n} {next} {kind} {total} s k so_far = sym so_far ∙ eos_step s ∙ ap (λ k. eos_by k (symbol_at t n) (eos_of (symbols_after t next))) k
+
+pub eos_on : {t : Symtab} {n next : ℕ} {kind : Kind} {total : Option Symbol} → Stands t n next kind → kind ≡ Member → eos_of (symbols_after t n) ≡ total → eos_of (symbols_after t next) ≡ total
+eos_on {t} {n} {next} {kind} {total} s k so_far = sym (ap (λ k. eos_by k (symbol_at t n) (eos_of (symbols_after t next))) k) ∙ sym (eos_step s) ∙ so_far
+
+eos_other : (k : Kind) (s : Symbol) (rest : Option Symbol) → (k ≡ Member → ⊥) → (k ≡ EndOfTag → ⊥) → eos_by k s rest ≡ None
+eos_other Member s rest a b = absurd (a refl)
+eos_other EndOfTag s rest a b = absurd (b refl)
+eos_other Tag s rest a b = refl
+eos_other Function s rest a b = refl
+eos_other BodyBegin s rest a b = refl
+eos_other BodyEnd s rest a b = refl
+eos_other BlockBegin s rest a b = refl
+eos_other BlockEnd s rest a b = refl
+eos_other Misnamed s rest a b = refl
+eos_other Other s rest a b = refl
+
+pub eos_lost : {t : Symtab} {n next : ℕ} {kind : Kind} {total : Option Symbol} → Stands t n next kind → (kind ≡ Member → ⊥) → (kind ≡ EndOfTag → ⊥) → eos_of (symbols_after t n) ≡ total → total ≡ None
+eos_lost {t} {n} {next} {kind} {total} s a b so_far = sym so_far ∙ eos_step s ∙ eos_other kind (symbol_at t n) (eos_of (symbols_after t next)) a b
+
+pub eos_out : (t : Symtab) (n : ℕ) {total : Option Symbol} → t.count ≤ n → eos_of (symbols_after t n) ≡ total → total ≡ None
+eos_out t n {total} le so_far = sym so_far ∙ ap eos_of (no_symbol t n le)
 
 pub body_found : {t : Symtab} {n next : ℕ} {kind : Kind} {total : Option ℕ} → Stands t n next kind → kind ≡ BodyEnd → body_end (nested_after t n) ≡ total → Some next ≡ total
 body_found {t} {n} {next} {kind} {total} s k so_far = sym (ap (λ k. body_by k next (body_end (nested_after t next))) k) ∙ sym (body_step t n next kind s) ∙ so_far

@@ -6,6 +6,7 @@ use Rattle.coff_rec.specs.Symbols.{Symbol, symbol_of}
 use Rattle.coff_rec.specs.Nesting.{Nested, nested_of}
 use Rattle.coff_rec.specs.declared.records.SymRec.{SymRec}
 use Rattle.coff_rec.specs.declared.nesting.Kind.{Kind}
+use Rattle.coff_rec.specs.declared.nesting.Kind.TheVariants.{Member, EndOfTag}
 use Rattle.coff_rec.specs.declared.entry.AuxRec.{AuxRec}
 
 -- the bytes of a table with this many symbols and entries, and its string table
@@ -57,6 +58,16 @@ pub record Stands (t : Symtab) (n next : ℕ) (kind : Kind) : Type 0 where
   pub inside : n < t.count
   pub next_is : next ≡ (nested_of (symbol_at t n)).next
   pub kind_is : kind ≡ (nested_of (symbol_at t n)).kind
+
+-- the .eos behind a tag's members
+abbrev pub eos_by : Kind → Symbol → Option Symbol → Option Symbol
+eos_by Member s rest = rest
+eos_by EndOfTag s rest = Some s
+eos_by k s rest = None
+
+abbrev pub eos_of : List Symbol → Option Symbol
+eos_of [] = None
+eos_of (s ∷ ss) = eos_by (nested_of s).kind s (eos_of ss)
 
 -- the symbol of an index
 abbrev pub found_if : Bool → Symbol → Option Symbol → Option Symbol

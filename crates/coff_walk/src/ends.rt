@@ -1,6 +1,6 @@
 // Where tags, bodies, functions and blocks end.
-ghost use Rattle.std.specs.Prelude.{◌≡◌, ◌<◌, ◌≤◌};
-ghost use Rattle.coff_walk.specs.Walk.{Symtab, nested_after};
+ghost use Rattle.std.specs.Prelude.{◌≡◌, ◌<◌, Some, None, MatchOption};
+ghost use Rattle.coff_walk.specs.Walk.{symbol_at, symbols_after, nested_after, eos_of};
 ghost use Rattle.coff_rec.specs.Nesting.{tag_end, body_end, function_end, block_end};
 
 use crate::table::Table;
@@ -16,6 +16,21 @@ impl<'a> Table<'a> {
             match e.kind {
                 Kind::Member => n = e.next,
                 Kind::EndOfTag => return Some(e.next),
+                _ => return None,
+            }
+        }
+        None
+    }
+
+    /// The index of the `.eos` behind a tag's members, which begin at `from`.
+    pub fn eos_of_tag(&self, from: usize) -> Option<usize>
+        ensures eos { MatchOption result (eos_of (symbols_after self.now from) ≡ None) (λ m. (m < self.now.count) × (eos_of (symbols_after self.now from) ≡ Some (symbol_at self.now m))) }
+    {
+        let mut n = from;
+        while let Some(e) = self.at(n) {
+            match e.kind {
+                Kind::Member => n = e.next,
+                Kind::EndOfTag => return Some(n),
                 _ => return None,
             }
         }

@@ -9,4 +9,4 @@ mod index;
 mod table;
 
 pub use index::Index;
-pub use table::{Place, Table};
+pub use table::{Place, Table, first_zero};

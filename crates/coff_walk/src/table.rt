@@ -34,7 +34,8 @@ pub struct Place {
     pub kind: Kind,
 }
 
-fn first_zero(b: &[u8]) -> Option<usize>
+/// Where the first zero byte stands.
+pub fn first_zero(b: &[u8]) -> Option<usize>
     ensures { result ≡ zero_at b.now }
 {
     b.iter().position(|x| *x == 0)
@@ -84,6 +85,13 @@ impl<'a> Table<'a> {
         ensures small { result < 2 ^ 32 }
     {
         self.count
+    }
+
+    /// The string table.
+    pub fn strings(&self) -> &'a [u8]
+        ensures strings { result.now ≡ self.now.strings }
+    {
+        self.strings
     }
 
     /// What stands at an index, read as a symbol.
