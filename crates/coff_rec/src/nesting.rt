@@ -140,4 +140,6 @@ fn block_kind(name: &[u8]) -> Kind
 /// Where a block ends, by what lies behind its `.bb`, is where whole scopes end.
 pub fn ends_are_scopes()
     ensures law { EndsAreScopes }
-{}
+{
+    // The law is all that is promised.
+}
