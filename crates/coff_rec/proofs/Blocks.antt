@@ -1,5 +1,5 @@
 -- The end of a block is the end of whole scopes.
-use Rattle.std.proofs.Common.{◌≡◌, ℕ, zero, suc, ◌+◌, List, [], ◌∷◌, ◌++◌, Option, Some, None, Bool, true, false, refl, sym, ap, subst, ◌∙◌, arith}
+use Rattle.std.proofs.Common.{◌≡◌, ℕ, zero, suc, List, [], ◌∷◌, Option, Some, refl, sym, ap, subst, ◌∙◌}
 use Rattle.coff_rec.specs.declared.nesting.Kind.{Kind}
 use Rattle.coff_rec.specs.declared.nesting.Kind.TheVariants.{Tag, Member, EndOfTag, Function, BodyBegin, BodyEnd, BlockBegin, BlockEnd, Misnamed, Other}
 use Rattle.coff_rec.specs.Nesting.{Nested, block_by, block_end}

@@ -1,20 +1,16 @@
 -- Computed rows: the records of the object of a small C file, by hand from a.out(4) and syms(4).
-use Rattle.std.specs.Prelude.{◌≡◌, ℕ, ℤ, pos, negsuc, List, [], ◌∷◌, ◌++◌, Option, Some, None, Bool, true, false, refl, codes, map}
-use Rattle.coff_rec.specs.TypeWords.{derivations, arrays, is_function, is_type}
+use Rattle.std.specs.Prelude.{◌≡◌, ℕ, pos, negsuc, List, [], ◌∷◌, ◌++◌, Some, None, true, false, refl, codes, map}
+use Rattle.coff_rec.specs.TypeWords.{derivations, arrays, is_type}
 use Rattle.coff_rec.specs.AuxKinds.{kind_for}
-use Rattle.coff_rec.specs.Records.{head_bytes, reloc_bytes, line_bytes, symbol_bytes, aux_bytes, aux_in, blank, head_in, symbol_in}
-use Rattle.coff_rec.specs.Symbols.{Symbol, name_of, symbols_from}
+use Rattle.coff_rec.specs.Records.{head_bytes, reloc_bytes, line_bytes, symbol_bytes, aux_bytes, aux_in, blank, symbol_in}
+use Rattle.coff_rec.specs.Symbols.{name_of, symbols_from}
 use Rattle.coff_rec.specs.Files.{symbol_table}
-use Rattle.coff_rec.specs.Nesting.{Nested, nested_of, kind_of, tag_end, function_end, block_end, around, is_placed}
-use Rattle.coff_rec.specs.Scopes.{EndsAreScopes}
-use Rattle.coff_rec.specs.declared.records.FileHead.{FileHead}
+use Rattle.coff_rec.specs.Nesting.{Nested, kind_of, tag_end, function_end, block_end, around}
 use Rattle.coff_rec.specs.declared.records.SymRec.{SymRec}
 use Rattle.coff_rec.specs.declared.entry.AuxRec.{AuxRec}
-use Rattle.coff_rec.specs.declared.entry.AuxKind.{AuxKind}
 use Rattle.coff_rec.specs.declared.entry.AuxKind.TheVariants as kinds
-use Rattle.coff_rec.specs.declared.nesting.Around.{Around}
 use Rattle.coff_rec.specs.declared.nesting.Kind.{Kind}
-use Rattle.coff_rec.specs.declared.nesting.Kind.TheVariants.{Tag, Member, EndOfTag, Function, BodyBegin, BodyEnd, BlockBegin, BlockEnd, Misnamed, Other}
+use Rattle.coff_rec.specs.declared.nesting.Kind.TheVariants.{Member, EndOfTag, Function, BodyBegin, BodyEnd, BlockBegin, BlockEnd, Misnamed, Other}
 
 -- ---- type words: a function returning int, `struct node *`, `int *(*fp)()`, `char a[2][3]`
 

@@ -1,5 +1,5 @@
 -- Which auxiliary entry a symbol has, by its class and its type word. It is the only place that knows this.
-use Rattle.std.specs.Prelude.{ℕ, Bool, true, false, nat_eq, nat_lt, ◌&&◌, ◌||◌, if◌then◌else◌}
+use Rattle.std.specs.Prelude.{ℕ, Bool, nat_eq, nat_lt, ◌&&◌, ◌||◌, if◌then◌else◌}
 use Rattle.coff_rec.specs.TypeWords.{is_tagged, is_function, arrays}
 use Rattle.coff_rec.specs.declared.codes.TheConstants.{C_ARG, C_AUTO, C_BLOCK, C_ENTAG, C_EOS, C_EXT, C_FCN, C_FIELD, C_FILE, C_MOE, C_MOS, C_MOU, C_REG, C_STAT, C_STRTAG, C_TPDEF, C_UNTAG}
 use Rattle.coff_rec.specs.declared.entry.AuxKind.{AuxKind}

@@ -1,5 +1,5 @@
 -- The records of a file (a.out(4), syms(4), linenum(4)): the bytes of each are its fields in the manual's order, the lowest byte of a number first.
-use Rattle.std.specs.Prelude.{ℕ, ◌+◌, ◌*◌, List, [], ◌∷◌, ◌++◌, take, drop}
+use Rattle.std.specs.Prelude.{ℕ, ◌+◌, List, [], ◌∷◌, ◌++◌, take, drop}
 use Rattle.std.specs.List.{concat, flat_map}
 use Rattle.std.specs.Int.{w16, cast_signed, cast_unsigned}
 use Rattle.byteorder.specs.Endian.{little_bytes}

@@ -1,5 +1,5 @@
 -- A function's body as a tree of scopes: what stands in a block is whole scopes, and then its .eb.
-use Rattle.std.specs.Prelude.{◌≡◌, ◌↔◌, ℕ, List, [], ◌∷◌, Some}
+use Rattle.std.specs.Prelude.{◌≡◌, ◌↔◌, ℕ, List, ◌∷◌, Some}
 use Rattle.coff_rec.specs.Nesting.{Nested, block_end}
 use Rattle.coff_rec.specs.declared.nesting.Kind.{Kind}
 use Rattle.coff_rec.specs.declared.nesting.Kind.TheVariants.{BodyBegin, BodyEnd, BlockBegin, BlockEnd}

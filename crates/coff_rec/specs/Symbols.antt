@@ -1,5 +1,5 @@
 -- The symbols of a file: the walk of its table by n_numaux.
-use Rattle.std.specs.Prelude.{ℕ, ℤ, ◌+◌, List, [], ◌∷◌, take, drop, Bool, true, false, nat_eq, if◌then◌else◌, Option, Some, None, position}
+use Rattle.std.specs.Prelude.{ℕ, ℤ, ◌+◌, List, [], ◌∷◌, take, drop, Bool, nat_eq, if◌then◌else◌, Option, Some, None, position}
 use Rattle.num_le.specs.Field.{field}
 use Rattle.coff_rec.specs.declared.records.SymRec.{SymRec}
 use Rattle.coff_rec.specs.declared.entry.AuxRec.{AuxRec}

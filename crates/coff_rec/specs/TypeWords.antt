@@ -1,5 +1,5 @@
 -- Type words (syms(4)): a basic type in the low four bits, and above it six pairs of bits, the outermost derivation lowest.
-use Rattle.std.specs.Prelude.{ℕ, zero, suc, ◌*◌, ◌/◌, ◌%◌, List, [], ◌∷◌, Bool, true, false, nat_eq, nat_le, ◌&&◌, ◌||◌, not, if◌then◌else◌, count_by}
+use Rattle.std.specs.Prelude.{ℕ, ◌/◌, ◌%◌, List, [], ◌∷◌, Bool, true, nat_eq, nat_le, ◌&&◌, ◌||◌, not, count_by}
 
 -- T_NULL 0, T_CHAR 2, T_SHORT 3, T_INT 4, T_LONG 5, T_STRUCT 8, T_UNION 9, T_ENUM 10, T_MOE 11, T_UCHAR 12, T_USHORT 13, T_UINT 14, T_ULONG 15
 abbrev pub basic : ℕ → ℕ

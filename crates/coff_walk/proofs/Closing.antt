@@ -1,9 +1,9 @@
 -- Going on behind a symbol that doesn't end what is looked for.
-use Rattle.std.proofs.Common.{◌≡◌, ℕ, zero, suc, ◌+◌, ◌-◌, ◌<◌, ◌≤◌, List, [], ◌∷◌, map, Option, Some, None, refl, sym, ap, subst, ◌∙◌, arith, ◌⊎◌, ⊎_elim}
+use Rattle.std.proofs.Common.{◌≡◌, ℕ, suc, ◌+◌, ◌-◌, ◌<◌, ◌≤◌, [], ◌∷◌, map, Option, Some, None, refl, sym, ap, subst, ◌∙◌, arith, ◌⊎◌, ⊎_elim}
 use Rattle.coff_rec.specs.declared.nesting.Kind.{Kind}
 use Rattle.coff_rec.specs.declared.nesting.Kind.TheVariants.{Tag, Member, EndOfTag, Function, BodyBegin, BodyEnd, BlockBegin, BlockEnd, Misnamed, Other}
 use Rattle.coff_rec.specs.Symbols.{Symbol}
-use Rattle.coff_rec.specs.Nesting.{Nested, nested_of, tag_by, tag_end, body_by, body_end, function_by, function_end, block_by, block_end}
+use Rattle.coff_rec.specs.Nesting.{nested_of, tag_by, tag_end, body_by, body_end, function_by, function_end, block_by, block_end}
 use Rattle.coff_walk.specs.Walk.{Symtab, symbol_at, symbols_after, nested_after, Stands, eos_by, eos_of}
 use Rattle.coff_walk.proofs.Walk.{rises, first_symbol, no_symbol}
 

@@ -1,11 +1,11 @@
 -- What the walk from a symbol comes to.
-use Rattle.std.proofs.Common.{◌≡◌, ℕ, zero, suc, ◌+◌, ◌-◌, ◌<◌, ◌≤◌, ◌≢◌, List, [], ◌∷◌, map, Bool, true, false, cond, eqb, ltb, Option, Some, None, refl, sym, ap, subst, ◌∙◌, arith, eq-eqb, length, get_or, ◌++◌, ◌⊎◌, inl, inr}
+use Rattle.std.proofs.Common.{◌≡◌, ℕ, zero, suc, ◌+◌, ◌-◌, ◌<◌, ◌≤◌, List, [], ◌∷◌, map, Bool, true, false, cond, ltb, Some, None, refl, sym, ap, subst, ◌∙◌, arith, eq-eqb, length, get_or, ◌++◌, ◌⊎◌, inl, inr}
 use Rattle.std.proofs.lemmas.Bool.{ltb-true}
 use Rattle.std.specs.Prelude.{nat_eq, is_some}
 use Rattle.coff_rec.specs.Symbols.{Symbol}
 use Rattle.coff_rec.specs.declared.records.SymRec.{SymRec}
 use Rattle.coff_walk.specs.Walk.{Symtab, record_at, symbol_at, next_of, indexes, symbols_after, found_if, find_symbol, is_index, IsReached}
-use Rattle.coff_walk.proofs.Walk.{first_symbol, no_symbol, index_is, next_is, rises}
+use Rattle.coff_walk.proofs.Walk.{first_symbol, index_is, next_is}
 
 other : (n m : ℕ) → (m ≡ n → ⊥) → nat_eq m n ≡ false
 other n m ne = grind arith

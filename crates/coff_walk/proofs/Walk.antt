@@ -1,8 +1,6 @@
 -- Going along the symbols of a table.
-use Rattle.std.proofs.Common.{◌≡◌, ℕ, zero, suc, ◌+◌, ◌-◌, ◌<◌, ◌≤◌, List, [], ◌∷◌, map, Bool, true, false, cond, ltb, refl, sym, ap, subst, ◌∙◌, arith}
+use Rattle.std.proofs.Common.{◌≡◌, ℕ, zero, suc, ◌+◌, ◌-◌, ◌<◌, ◌≤◌, [], ◌∷◌, map, cond, ltb, refl, sym, ap, ◌∙◌, arith}
 use Rattle.std.proofs.lemmas.Bool.{lt-ltb, le-ltb}
-use Rattle.coff_rec.specs.Symbols.{Symbol}
-use Rattle.coff_rec.specs.declared.records.SymRec.{SymRec}
 use Rattle.coff_walk.specs.Walk.{Symtab, record_at, symbol_at, next_of, indexes, symbols_after, records_after}
 
 -- enough steps are enough

@@ -1,6 +1,6 @@
 -- The walk of a symbol table by n_numaux, over the bytes of the table.
-use Rattle.std.specs.Prelude.{◌≡◌, ◌<◌, ℕ, zero, suc, ◌+◌, ◌-◌, ◌*◌, ◌^◌, List, [], ◌∷◌, take, drop, length, map, min, Bool, true, false, nat_eq, nat_le, nat_lt, ◌&&◌, if◌then◌else◌, Option, Some, None, is_some, ◌≤◌}
-use Rattle.coff_rec.specs.AuxKinds.{kind_for, is_tag}
+use Rattle.std.specs.Prelude.{◌≡◌, ◌<◌, ℕ, zero, suc, ◌+◌, ◌-◌, ◌*◌, List, [], ◌∷◌, take, drop, map, min, Bool, true, false, nat_eq, nat_lt, if◌then◌else◌, Option, Some, None, is_some, ◌≤◌}
+use Rattle.coff_rec.specs.AuxKinds.{kind_for}
 use Rattle.coff_rec.specs.Records.{piece, symbol_in, aux_in}
 use Rattle.coff_rec.specs.Symbols.{Symbol, symbol_of}
 use Rattle.coff_rec.specs.Nesting.{Nested, nested_of}

@@ -1,5 +1,5 @@
-use Rattle.std.proofs.Common.{◌≡◌, ◌<◌, ◌≤◌, ap, subst, sym, arith, ◌∙◌}
-use Rattle.coff_walk.specs.Walk.{Symtab, symbols_after, is_index, record_at}
+use Rattle.std.proofs.Common.{◌≡◌, ap, arith, ◌∙◌}
+use Rattle.coff_walk.specs.Walk.{Symtab, record_at}
 use Rattle.coff_walk.proofs.Reaching.{behind_all, nearer, arrived}
 use Rattle.coff_walk.proofs.index.Index.has.Goals as goal
 

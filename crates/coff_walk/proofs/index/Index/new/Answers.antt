@@ -1,4 +1,4 @@
-use Rattle.std.proofs.Common.{◌<◌, length, sym, ap, subst, arith}
+use Rattle.std.proofs.Common.{length, sym, ap, subst, arith}
 use Rattle.coff_walk.specs.Walk.{IsReached}
 use Rattle.coff_walk.proofs.Reaching.{begins, reaches, marked, stepped}
 use Rattle.coff_walk.proofs.index.Index.new.Goals as goal

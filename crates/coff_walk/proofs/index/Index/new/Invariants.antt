@@ -1,4 +1,4 @@
-use Rattle.std.proofs.Common.{◌-◌, ◌≡◌, ℕ, ◌<◌, length, get_or}
+use Rattle.std.proofs.Common.{◌-◌, ℕ, ◌<◌, length, get_or}
 use Rattle.coff_walk.specs.Walk.{IsReached}
 use Rattle.coff_walk.proofs.index.Index.new.Given as goal
 

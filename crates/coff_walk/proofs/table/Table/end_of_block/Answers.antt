@@ -1,5 +1,5 @@
 use Rattle.std.proofs.Common.{arith, inl, inr}
-use Rattle.coff_walk.proofs.Closing.{smaller, further, deeper, back, along, block_found, block_lost, block_out}
+use Rattle.coff_walk.proofs.Closing.{smaller, deeper, back, along, block_found, block_lost, block_out}
 use Rattle.coff_walk.proofs.table.Table.end_of_block.Goals as goal
 
 pub loop-e-smaller : goal.loop-e-smaller
