@@ -1,0 +1,5 @@
+pub mod EdgeStarts
+pub mod Whole
+pub mod Rows
+pub mod Needed
+pub mod LimitRows
