@@ -3,3 +3,4 @@ pub mod Whole
 pub mod Rows
 pub mod Needed
 pub mod LimitRows
+pub mod FrameParts

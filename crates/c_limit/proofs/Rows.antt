@@ -16,9 +16,15 @@ use Rattle.c_tree.specs.declared.typed_stmt.TBlock.{TBlock}
 use Rattle.c_tree.specs.declared.typed_stmt.TSwItem.{TSwItem}
 use Rattle.c_tree.specs.declared.typed_stmt.TLocalDecl.{TLocalDecl}
 use Rattle.c_tree.specs.TStmt.{locals}
-use Rattle.c_tree.specs.TypedOf.{expr_of, args_of, init_of, inits_of, stmt_of, stmts_of, stmts_from, item_of, items_of, items_from, local_decl_of}
+use Rattle.c_tree.specs.TypedOf.{expr_of, args_of, init_of, inits_of, stmt_of, stmts_of, stmts_from, item_of, items_of, items_from, local_decl_of, declr_of, spec_of, mems_of}
 use Rattle.c_limit.specs.Parts.{Part, Declares, Evaluates, parts_stmt, parts_stmts, parts_items}
-use Rattle.c_limit.specs.Of.{args_from, inits_from}
+use Rattle.c_type.specs.Types.{Tag, struct}
+use Rattle.c_tree.specs.declared.typed_unit.TSpec as g
+use Rattle.c_tree.specs.declared.typed_unit.TSpec.{TSpec}
+use Rattle.c_tree.specs.declared.typed_unit.TMembers.{TMembers}
+use Rattle.c_tree.specs.TUnit as u
+use Rattle.c_limit.specs.Names.{Named, of_tag, named_spec, named_mems}
+use Rattle.c_limit.specs.Of.{args_from, inits_from, mems_from}
 
 args_are : (n : _) (row : x.TheBlock.Row_of-TExpr n) → args_of row ≡ args_from (x.items-the_row-TExpr n row)
 args_are n x.TheBlock.end_of-TExpr = refl
@@ -71,6 +77,26 @@ pub stmt_of-Block : (b : TBlock) → stmt_of (d.TheVariants.Block b) ≡ st.bloc
 stmt_of-Block b =
     let row = stmts_in (d.TheVariants.Block b) in
     ap (λ x. st.block b.line (map local_decl_of b.locals.items) x b.close_line) (stmts_are row.0 row.1 ∙ ap stmts_from (d.TheBlock.items_hidden-the_row-TStmt-1 b.stmts))
+
+mems_are : (n : _) (row : g.TheBlock.Row_of-TMembers n) → mems_of row ≡ mems_from (g.TheBlock.items-the_row-TMembers n row)
+mems_are n g.TheBlock.end_of-TMembers = refl
+mems_are n (g.TheBlock.more_of-TMembers s ds ms) = ap (u.more_mems (spec_of s) (map declr_of ds.items)) (mems_are _ ms)
+
+abbrev mems_in : TSpec → (n : Count) × g.TheBlock.Row_of-TMembers n
+mems_in (g.TheBlock.Struct' _ _ row) = (_, row)
+mems_in _ = (_, g.TheBlock.end_of-TMembers)
+
+pub spec_of-Struct : (k : ℕ) (ms : Vec TMembers Global) → spec_of (g.TheVariants.Struct k ms) ≡ u.struct_body k (mems_from ms.items)
+spec_of-Struct k ms =
+    let row = mems_in (g.TheVariants.Struct k ms) in
+    ap (u.struct_body k) (mems_are row.0 row.1 ∙ ap mems_from (g.TheBlock.items_hidden-the_row-TMembers-0 ms))
+
+-- what a structure adds: its members, then its tag
+pub struct_adds : (ts : List Tag) (v : TSpec) (k : ℕ) (ms : Vec TMembers Global) (xs : List TMembers) (x : Named) (a b c : List Named) → v ≡ g.TheVariants.Struct k ms → xs ≡ ms.items
+    → b ≡ a ++ named_mems ts (mems_from xs) → x ≡ of_tag ts struct k → c ≡ b ++ x ∷ [] → c ≡ a ++ named_spec ts (spec_of v)
+struct_adds ts v k ms xs x a b c at same own tag rest =
+    rest ∙ ap (λ y. y ++ x ∷ []) own ∙ append_assoc a (named_mems ts (mems_from xs)) (x ∷ []) ∙ ap (λ y. a ++ (named_mems ts (mems_from y) ++ x ∷ [])) same ∙
+    ap (λ y. a ++ (named_mems ts (mems_from ms.items) ++ y ∷ [])) tag ∙ ap (λ y. a ++ named_spec ts y) (sym (ap spec_of at ∙ spec_of-Struct k ms))
 
 -- what a switch adds: its value, then its parts
 pub switch_adds : (v : TStmt) (k l : ℕ) (x : TExpr) (is : Vec TSwItem Global) (xs : List TSwItem) (a b c : List Part) → v ≡ d.TheVariants.Switch k l x is → xs ≡ is.items → b ≡ a ++ Evaluates (expr_of x) ∷ [] → c ≡ b ++ parts_items (items_from xs) → c ≡ a ++ parts_stmt (stmt_of v)

@@ -14,8 +14,27 @@ use Rattle.c_run.specs.Context.{Linked, linked, context}
 use Rattle.c_run.specs.Place.{lasting_size}
 use Rattle.c_run.specs.Calls.{frame_of}
 use Rattle.type_word.specs.Words.{derivations, dimensions_of}
+use Rattle.c_limit.specs.Parts.{Part, Declares, Evaluates}
 use Rattle.c_limit.specs.Names.{Named, named}
 use Rattle.c_limit.specs.Temporaries.{of_func}
+
+-- the bytes of the automatic object that a declarator makes
+abbrev pub auto_bytes : List Tag → st.Local → ℕ
+auto_bytes ts (st.auto d i) = up_to 4 (size ts d.ty)
+auto_bytes ts (st.auto_init d i k l e) = up_to 4 (size ts d.ty)
+auto_bytes ts (st.static_ d k i) = 0
+auto_bytes ts (st.extern_ d) = 0
+auto_bytes ts (st.function d s) = 0
+
+-- of a part of a body
+abbrev pub part_bytes : List Tag → Part → ℕ
+part_bytes ts (Declares d) = auto_bytes ts d
+part_bytes ts (Evaluates e) = 0
+
+-- the bytes of a body's automatic objects, each rounded up to 4
+abbrev pub local_bytes : List Tag → List Part → ℕ
+local_bytes ts [] = 0
+local_bytes ts (x ∷ xs) = part_bytes ts x + local_bytes ts xs
 
 -- which limit is passed
 pub data Excess : Type 0 where

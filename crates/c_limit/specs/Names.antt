@@ -8,7 +8,7 @@ use Rattle.c_type.specs.Sizes.{no_tag}
 use Rattle.c_tree.specs.TStmt as st
 use Rattle.c_tree.specs.TStmt.{Declr}
 use Rattle.c_tree.specs.TUnit as u
-use Rattle.c_tree.specs.TUnit.{Spec, Mems, ParDecl, TExt, TypedUnit}
+use Rattle.c_tree.specs.TUnit.{Spec, Mems, ParDecl, Func, TExt, TypedUnit}
 use Rattle.c_rule.specs.RuleUnit.{as_parameter}
 use Rattle.c_limit.specs.Parts.{local_in, parts}
 
@@ -52,14 +52,17 @@ named_local (st.function d s) = of_declr d
 abbrev pub named_pars : List Tag → ParDecl → List Named
 named_pars ts p = named_spec ts p.spec ++ map of_parameter p.declrs
 
--- a part of a unit; a function's name stands before its parameters
+-- a function's name stands before its parameters and what its body declares
+abbrev pub named_func : List Tag → Func → List Named
+named_func ts f =
+    record { name = f.name; ty = fun f.result } ∷ (flat_map (named_pars ts) f.declared ++ map named_local (filter_map local_in (parts f)))
+
+-- a part of a unit
 abbrev pub named_ext : List Tag → TExt → List Named
 named_ext ts (u.typedef s ds) = named_spec ts s ++ map of_declr ds
 named_ext ts (u.tag_only s) = named_spec ts s
 named_ext ts (u.object s is) = named_spec ts s ++ map (λ i. of_declr i.declr) is
-named_ext ts (u.func s f) =
-    named_spec ts s ++ (record { name = f.name; ty = fun f.result } ∷ (flat_map (named_pars ts) f.declared ++
-    map named_local (filter_map local_in (parts f))))
+named_ext ts (u.func s f) = named_spec ts s ++ named_func ts f
 
 -- the declared names of a unit, and its tags at their closing braces
 abbrev pub named : TypedUnit → List Named
