@@ -5,4 +5,5 @@ pub mod Of
 pub mod Names
 pub mod Temporaries
 pub mod Limits
+pub mod Errors
 pub mod Laws

@@ -4,6 +4,7 @@
 ghost use Rattle.c_limit.specs.Laws.{EdgesHaveStarts, WholeIsPart};
 
 mod frame;
+mod named_types;
 mod names;
 mod parts;
 mod temporaries;
@@ -13,7 +14,45 @@ pub use frame::{frame_is_of_parts, frame_of_parts};
 pub use names::{Named, NamedType, declared_names};
 pub use parts::{Part, parts as parts_of_body};
 pub use temporaries::{temporaries as temporaries_of, temporaries_of_parts};
+use num_le::Name;
+use std::alloc::AllocError;
 pub use types::{arrays, derivations, greatest_dimension, greatest_part, size_in};
+
+/// Which limit a program passes.
+#[derive(Debug, Drop)]
+pub enum LimitErr {
+    /// The C files have more than 131,000 bytes together.
+    Total,
+    /// The C files have more than 65,000 starts and functions together.
+    Starts,
+    /// A start of this file, counted from 0, stands behind line 65,535.
+    Lines(u32),
+    /// The objects of static life take more than 16,777,216 bytes.
+    Init,
+    /// An array or structure inside the name's type has more than 65,535 bytes.
+    Object(Name),
+    /// The name's type has more than 6 derivations.
+    Derivations(Name),
+    /// The name's type has more than 4 array derivations, or one of more than 65,535 elements.
+    Dimensions(Name),
+    /// The function needs more than 64 temporaries.
+    Temporaries(Name),
+    /// The function's frame has more than 16,777,216 bytes.
+    Frame(Name),
+    /// No memory was left.
+    Memory,
+}
+
+impl From<AllocError> for LimitErr {
+    ghost use Rattle.c_limit.specs.declared.LimitErr.{LimitErr};
+    ghost use Rattle.std.specs.Prelude.{◌≡◌};
+
+    ghost from_gives = { λ _ e. e ≡ LimitErr.Memory };
+
+    fn from(_: AllocError) -> LimitErr {
+        LimitErr::Memory
+    }
+}
 
 /// The starts among the edges of a file are its starts, in order.
 pub fn edges_have_starts()
