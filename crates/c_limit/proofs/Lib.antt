@@ -4,3 +4,4 @@ pub mod Rows
 pub mod Needed
 pub mod LimitRows
 pub mod FrameParts
+pub mod FirstPassed

@@ -5,5 +5,6 @@ pub mod Of
 pub mod Names
 pub mod Temporaries
 pub mod Limits
+pub mod UnitLimits
 pub mod Errors
 pub mod Laws

@@ -125,8 +125,8 @@ abbrev pub dimension_limits : TypedUnit → List Limit
 dimension_limits x = flat_map dimension_limits_of (named x)
 
 -- limits of each function
-abbrev pub temporary_limits : List BodyAt → List Limit
-temporary_limits bs = map (λ b. limit (of_func b.func) 64 (Temporaries b.func.name)) bs
+abbrev pub temporary_limits : TypedUnit → List Limit
+temporary_limits x = map (λ f. limit (of_func f) 64 (Temporaries f.name)) (funcs_of x.exts)
 
 abbrev pub frame_limits : Linked → List BodyAt → List Limit
 frame_limits w bs = map (λ b. limit (frame_of (context w b) b.func) 16777216 (Frame b.func.name)) bs
@@ -145,7 +145,7 @@ abbrev pub name_limits : Program → List Limit
 name_limits p = flat_map object_limits p.units ++ (flat_map derivation_limits p.units ++ flat_map dimension_limits p.units)
 
 abbrev pub body_limits : Program → List Limit
-body_limits p = temporary_limits (bodies p) ++ frame_limits (linked p) (bodies p)
+body_limits p = flat_map temporary_limits p.units ++ frame_limits (linked p) (bodies p)
 
 -- All limits of a program whose texts have these lengths, in the order of the checks.
 abbrev pub limits : Program → List ℕ → List Limit

@@ -3,6 +3,7 @@
 
 ghost use Rattle.c_limit.specs.Laws.{EdgesHaveStarts, WholeIsPart};
 
+mod checks;
 mod frame;
 mod named_types;
 mod names;
@@ -10,6 +11,7 @@ mod parts;
 mod temporaries;
 mod types;
 
+pub use checks::{names_fit, temporaries_fit};
 pub use frame::{frame_is_of_parts, frame_of_parts};
 pub use names::{Named, NamedType, declared_names};
 pub use parts::{Part, parts as parts_of_body};
