@@ -5,3 +5,4 @@ pub mod Needed
 pub mod LimitRows
 pub mod FrameParts
 pub mod FirstPassed
+pub mod UnitFrames

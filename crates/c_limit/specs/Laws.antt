@@ -1,12 +1,13 @@
 -- Laws of edges, limits and made programs.
 use Rattle.std.specs.Prelude.{◌≡◌, ◌+◌, ℕ, List, true, false, None}
-use Rattle.std.specs.List.{filter_map}
+use Rattle.std.specs.List.{filter_map, flat_map}
 use Rattle.c_type.specs.Types.{CType}
 use Rattle.c_tree.specs.TUnit.{TypedUnit, Program, Func}
-use Rattle.c_run.specs.Context.{Context}
+use Rattle.c_tree.specs.Bodies.{bodies}
+use Rattle.c_run.specs.Context.{Context, linked}
 use Rattle.c_run.specs.Calls.{frame_of}
 use Rattle.c_limit.specs.Parts.{parts}
-use Rattle.c_limit.specs.Limits.{local_bytes}
+use Rattle.c_limit.specs.Limits.{local_bytes, frame_limits, unit_frames}
 use Rattle.c_tree.specs.Starts.{starts}
 use Rattle.c_limit.specs.Edges.{edges, start_of}
 use Rattle.c_limit.specs.Made.{IsMade}
@@ -22,3 +23,7 @@ WholeIsPart = (p : Program) (counts : List ℕ) → IsMade true counts p → IsM
 -- a frame is the bytes of the body's automatic objects and 256 for temporaries
 abbrev pub FrameIsOfParts : Type 0
 FrameIsOfParts = (c : Context) (f : Func) → local_bytes c.tags (parts f) + 256 ≡ frame_of c f
+
+-- the limits on frames are those of each unit's parts
+abbrev pub FramesAreOfUnits : Type 0
+FramesAreOfUnits = (p : Program) → frame_limits (linked p) (bodies p) ≡ flat_map unit_frames p.units

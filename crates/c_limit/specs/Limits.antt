@@ -5,7 +5,7 @@ use Rattle.std.specs.List.{flat_map}
 use Rattle.c_type.specs.Names.{Name, pick}
 use Rattle.c_type.specs.Types.{CType, num, void, ptr, arr, struct, union, enum, fun, Tag}
 use Rattle.c_type.specs.Sizes.{size, up_to}
-use Rattle.c_tree.specs.TUnit.{TypedUnit, Program, funcs_of}
+use Rattle.c_tree.specs.TUnit.{TypedUnit, Program, Func, funcs_of}
 use Rattle.c_tree.specs.TStmt as st
 use Rattle.c_tree.specs.Starts.{starts, lines}
 use Rattle.c_tree.specs.Bodies.{BodyAt, bodies}
@@ -14,7 +14,7 @@ use Rattle.c_run.specs.Context.{Linked, linked, context}
 use Rattle.c_run.specs.Place.{lasting_size}
 use Rattle.c_run.specs.Calls.{frame_of}
 use Rattle.type_word.specs.Words.{derivations, dimensions_of}
-use Rattle.c_limit.specs.Parts.{Part, Declares, Evaluates}
+use Rattle.c_limit.specs.Parts.{Part, Declares, Evaluates, parts}
 use Rattle.c_limit.specs.Names.{Named, named}
 use Rattle.c_limit.specs.Temporaries.{of_func}
 
@@ -130,6 +130,13 @@ temporary_limits x = map (λ f. limit (of_func f) 64 (Temporaries f.name)) (func
 
 abbrev pub frame_limits : Linked → List BodyAt → List Limit
 frame_limits w bs = map (λ b. limit (frame_of (context w b) b.func) 16777216 (Frame b.func.name)) bs
+
+-- the frames of a unit's functions, from the parts of their bodies
+unfoldable pub frame_limit : List Tag → Func → Limit
+frame_limit ts f = limit (local_bytes ts (parts f) + 256) 16777216 (Frame f.name)
+
+abbrev pub unit_frames : TypedUnit → List Limit
+unit_frames x = map (frame_limit x.tags) (funcs_of x.exts)
 
 -- limits on texts and starts
 abbrev pub text_limits : Program → List ℕ → List Limit

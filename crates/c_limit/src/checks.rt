@@ -4,17 +4,20 @@ ghost use Rattle.std.specs.List.{flat_map};
 ghost use Rattle.c_type.specs.Of.{tags_of};
 ghost use Rattle.c_tree.specs.TUnit.{funcs_of};
 ghost use Rattle.c_tree.specs.TypedOf.{func_of, unit_of, program_of};
-ghost use Rattle.c_limit.specs.Limits.{limit, first_passed, name_limits, object_limits, derivation_limits, dimension_limits, temporary_limits, Temporaries};
+ghost use Rattle.c_limit.specs.Limits.{limit, first_passed, name_limits, object_limits, derivation_limits, dimension_limits, temporary_limits, Temporaries, unit_frames, frame_limit};
 ghost use Rattle.c_limit.specs.Temporaries.{of_func};
+ghost use Rattle.c_limit.specs.Laws.{FramesAreOfUnits};
 ghost use Rattle.c_limit.specs.Errors.{excess_of};
 ghost use Rattle.c_limit.specs.UnitLimits.{limits_at};
 
 use crate::LimitErr;
+use crate::frame::frame_of_parts;
 use crate::named_types::{first_derived, first_dimensioned, first_large};
 use crate::names::declared_names;
 use crate::parts::parts;
 use crate::temporaries::temporaries_of_parts;
 use c_tree::{Program, TExt, TFunc, TypedUnit};
+use c_type::Tags;
 use num_le::Name;
 use std::alloc::{AllocError, Global};
 
@@ -25,6 +28,7 @@ enum UnitLimit {
     Derivations,
     Dimensions,
     Temporaries,
+    Frames,
 }
 
 /// The refusal of the first name with a large array or structure inside its type.
@@ -86,6 +90,37 @@ fn first_function(alloc: Global, unit: &TypedUnit) -> Result<Option<LimitErr>, A
     Ok(None)
 }
 
+/// The refusal of a function whose frame has more than 16,777,216 bytes.
+#[tactic(auto, unfolding(crate::specs::Limits::frame_limit))]
+fn frame_refusal(
+    alloc: Global,
+    func: &TFunc,
+    tags: &Tags,
+) -> Result<Option<LimitErr>, AllocError>
+    ensures { IfOk result (λ o. option_map excess_of o ≡ option_map Some (first_passed (frame_limit (tags_of tags.now) (func_of func.now) ∷ []))) }
+{
+    let parts = parts(alloc, func)?;
+    if frame_of_parts(&parts, tags) <= 16777216 {
+        return Ok(None);
+    }
+    let name = Name::of(alloc, func.name.as_slice())?;
+    Ok(Some(LimitErr::Frame(name)))
+}
+
+/// The first function of a unit whose frame is refused.
+fn first_frame(alloc: Global, unit: &TypedUnit) -> Result<Option<LimitErr>, AllocError>
+    ensures { IfOk result (λ o. option_map excess_of o ≡ option_map Some (first_passed (unit_frames (unit_of unit.now)))) }
+{
+    for ext in &unit.exts {
+        if let TExt::Func(_, func) = ext {
+            if let Some(refusal) = frame_refusal(alloc, func, &unit.tags)? {
+                return Ok(Some(refusal));
+            }
+        }
+    }
+    Ok(None)
+}
+
 /// The first refusal in a unit, name by name or function by function.
 fn first_refusal(
     alloc: Global,
@@ -99,6 +134,7 @@ fn first_refusal(
         UnitLimit::Derivations => first_derivations(alloc, unit),
         UnitLimit::Dimensions => first_dimensions(alloc, unit),
         UnitLimit::Temporaries => first_function(alloc, unit),
+        UnitLimit::Frames => first_frame(alloc, unit),
     }
 }
 
@@ -144,4 +180,22 @@ pub fn temporaries_fit(alloc: Global, p: &Program) -> Result<(), LimitErr>
         Some(refusal) => Err(refusal),
         None => Ok(()),
     }
+}
+
+/// The limit on the frames of functions, function by function.
+pub fn frames_fit(alloc: Global, p: &Program) -> Result<(), LimitErr>
+    ensures passed { IfOk result (λ _. first_passed (flat_map unit_frames (program_of p.now).units) ≡ None) }
+    ensures refused { IfErr result (λ e. IfSome (excess_of e) (λ x. first_passed (flat_map unit_frames (program_of p.now).units) ≡ Some x)) }
+{
+    match first_of_units(alloc, UnitLimit::Frames, &p.units)? {
+        Some(refusal) => Err(refusal),
+        None => Ok(()),
+    }
+}
+
+/// The limits on frames are those of each unit's functions.
+pub fn frames_are_of_units()
+    ensures law { FramesAreOfUnits }
+{
+    // The law is all that is promised.
 }

@@ -11,7 +11,7 @@ mod parts;
 mod temporaries;
 mod types;
 
-pub use checks::{names_fit, temporaries_fit};
+pub use checks::{frames_are_of_units, frames_fit, names_fit, temporaries_fit};
 pub use frame::{frame_is_of_parts, frame_of_parts};
 pub use names::{Named, NamedType, declared_names};
 pub use parts::{Part, parts as parts_of_body};
