@@ -9,6 +9,7 @@ mod named_types;
 mod names;
 mod parts;
 mod temporaries;
+mod texts;
 mod types;
 
 pub use checks::{frames_are_of_units, frames_fit, names_fit, temporaries_fit};
@@ -18,6 +19,7 @@ pub use parts::{Part, parts as parts_of_body};
 pub use temporaries::{temporaries as temporaries_of, temporaries_of_parts};
 use num_le::Name;
 use std::alloc::AllocError;
+pub use texts::texts_fit;
 pub use types::{arrays, derivations, greatest_dimension, greatest_part, size_in};
 
 /// Which limit a program passes.
