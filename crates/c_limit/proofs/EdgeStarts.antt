@@ -3,9 +3,9 @@ use Rattle.std.proofs.Common.{append-nil, ◌≡◌, ℕ, suc, ◌+◌, List, []
 use Rattle.std.specs.List.{flat_map, filter_map}
 use Rattle.std.proofs.lemmas.List.Elements.{filter_map-append}
 use Rattle.c_tree.specs.TStmt.{TStmt, expr, empty, if_only, if_else, while_, do_, for_, switch, break_, continue_, return_, block, TStmts, no_stmts, more_stmts, TItems, no_items, case_, default_, more_items, locals}
-use Rattle.c_tree.specs.TUnit.{TypedUnit, Func, funcs_of}
-use Rattle.c_tree.specs.Starts.{Start, at, starts_local, starts_stmt, starts_stmts, starts_items, starts_func, starts}
-use Rattle.c_limit.specs.Edges.{Edge, FileCloses, BodyCloses, BlockCloses, Begins, edges_at, edges_stmt, edges_stmts, edges_items, edges_func, edges_from, edges, start_of}
+use Rattle.c_tree.specs.TUnit.{Func, funcs_of}
+use Rattle.c_tree.specs.Starts.{Start, at, starts_local, starts_stmt, starts_stmts, starts_items, starts_func}
+use Rattle.c_limit.specs.Edges.{Edge, FileCloses, BodyCloses, BlockCloses, Begins, edges_at, edges_stmt, edges_stmts, edges_items, edges_func, edges_from, start_of}
 use Rattle.c_limit.specs.Laws.{EdgesHaveStarts}
 
 -- the starts among edges

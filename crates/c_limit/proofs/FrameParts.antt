@@ -1,7 +1,6 @@
 -- The automatic objects of a body are those of its parts.
-use Rattle.std.proofs.Common.{◌≡◌, ℕ, ◌+◌, List, [], ◌∷◌, ◌++◌, map, refl, sym, ap, ◌∙◌, arith, Option, Some, None, zero-add, add-zero}
+use Rattle.std.proofs.Common.{◌≡◌, ◌+◌, List, [], ◌∷◌, ◌++◌, map, refl, sym, ap, ◌∙◌, arith, Option, Some, None, zero-add, add-zero}
 use Rattle.std.specs.List.{flat_map}
-use Rattle.c_type.specs.Types.{Tag}
 use Rattle.c_tree.specs.TExpr.{TExpr}
 use Rattle.c_tree.specs.TStmt as st
 use Rattle.c_tree.specs.TStmt.{TStmt, TStmts, TItems, locals}

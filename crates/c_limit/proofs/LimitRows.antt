@@ -1,7 +1,6 @@
 -- Limits, edges and temporaries of small programs.
 use Rattle.std.proofs.Common.{◌≡◌, ℕ, zero, suc, List, ◌∷◌, [], refl, Option, None, Some, false}
-use Rattle.c_type.specs.Names.{Name}
-use Rattle.c_type.specs.Types.{CType, num, ptr, arr, struct, fun, Tag, Member}
+use Rattle.c_type.specs.Types.{CType, num, ptr, arr, fun}
 use Rattle.c_type.specs.declared.Kind.TheVariants.{Char, Int}
 use Rattle.c_type.specs.declared.TagKind.TheVariants.{Struct}
 use Rattle.c_tree.specs.TExpr as e
@@ -15,7 +14,7 @@ use Rattle.c_tree.specs.declared.typed_unit.Bound.TheVariants.{Outside}
 use Rattle.c_tree.specs.Starts.{at}
 use Rattle.c_limit.specs.Edges.{edges, FileOpens, FileCloses, BodyOpens, BodyCloses, BlockOpens, BlockCloses, Begins}
 use Rattle.c_limit.specs.Temporaries.{temporaries}
-use Rattle.c_limit.specs.Limits.{limits, first_passed, Excess, Total, Starts, Lines, Init, Object, Derivations, Dimensions, Temporaries, Frame}
+use Rattle.c_limit.specs.Limits.{limits, first_passed, Excess, Total, Lines, Init, Object, Derivations, Dimensions, Temporaries}
 
 abbrev int : CType
 int = num Int
@@ -73,7 +72,17 @@ main ds ss k l =
       tags = [];
       texts = [];
       exts = u.func (u.plain int) (record {
-        name = 109 ∷ []; is_static = false; result = int; params = []; declared = []; open_ = 0; line = 1; locals = ds; stmts = ss; close = k; close_line = l;
+        name = 109 ∷ [];
+        is_static = false;
+        result = int;
+        params = [];
+        declared = [];
+        open_ = 0;
+        line = 1;
+        locals = ds;
+        stmts = ss;
+        close = k;
+        close_line = l;
       }) ∷ [];
     }
 

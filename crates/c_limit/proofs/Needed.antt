@@ -1,10 +1,8 @@
 -- What calls and lists of initialisers need of temporaries.
-use Rattle.std.proofs.Common.{◌≡◌, ℕ, suc, ◌+◌, ◌-◌, ◌^◌, max, min, List, true, false, refl, sym, ap, ◌∙◌, Vec, Box, Global, arith, subst}
+use Rattle.std.proofs.Common.{◌≡◌, ℕ, suc, ◌+◌, ◌-◌, ◌^◌, max, min, List, true, false, sym, ap, ◌∙◌, Vec, Box, Global, arith}
 use Rattle.c_type.specs.declared.CType.{CType}
-use Rattle.c_type.specs.Of.{type_of}
 use Rattle.c_tree.specs.declared.typed_expr.TExpr.{TExpr, Call}
 use Rattle.c_tree.specs.declared.typed_stmt.TInit.{TInit, Group}
-use Rattle.c_tree.specs.TExpr as e
 use Rattle.c_tree.specs.TypedOf.{expr_of, init_of}
 use Rattle.c_limit.specs.Temporaries.{temporaries, of_args, of_called, is_by_name, of_init, of_inits, counted}
 use Rattle.c_limit.specs.Of.{args_from, inits_from}

@@ -1,15 +1,15 @@
 -- The bodies of a program are those of its units, each in the context of its unit's tags.
-use Rattle.std.proofs.Common.{◌≡◌, ℕ, zero, suc, ◌+◌, List, [], ◌∷◌, ◌++◌, map, refl, sym, ap, ◌∙◌, arith, zero-add}
+use Rattle.std.proofs.Common.{◌≡◌, ℕ, suc, ◌+◌, List, [], ◌∷◌, ◌++◌, map, refl, sym, ap, ◌∙◌, arith, zero-add}
 use Rattle.std.proofs.lemmas.List.{map-append}
 use Rattle.std.specs.List.{flat_map}
 use Rattle.c_type.specs.Names.{at_or}
 use Rattle.c_type.specs.Types.{Tag}
-use Rattle.c_tree.specs.TUnit.{TypedUnit, Program, Func, funcs_of, no_unit}
+use Rattle.c_tree.specs.TUnit.{TypedUnit, Func, funcs_of, no_unit}
 use Rattle.c_tree.specs.Bodies.{BodyAt, bodies_from}
 use Rattle.c_run.specs.Context.{Linked, linked, context}
 use Rattle.c_run.specs.Calls.{frame_of}
 use Rattle.c_limit.specs.Parts.{parts}
-use Rattle.c_limit.specs.Limits.{Limit, limit, local_bytes, frame_limits, frame_limit, unit_frames, Frame}
+use Rattle.c_limit.specs.Limits.{limit, local_bytes, frame_limits, frame_limit, unit_frames, Frame}
 use Rattle.c_limit.specs.Laws.{FramesAreOfUnits}
 use Rattle.c_limit.proofs.FrameParts.{frame_is_of_parts}
 

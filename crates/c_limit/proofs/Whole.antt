@@ -1,12 +1,11 @@
 -- What is made of a whole program holds of a part.
-use Rattle.std.proofs.Common.{◌≡◌, Option, Some, None, true, false, refl, List, ℕ, ap, ◌∙◌}
+use Rattle.std.proofs.Common.{◌≡◌, Option, Some, None, true, false, refl, List}
 use Rattle.std.specs.Option.{option_map}
-use Rattle.c_type.specs.Names.{or_else, pick}
-use Rattle.c_tree.specs.TUnit.{TypedUnit, Program}
+use Rattle.c_type.specs.Names.{or_else}
+use Rattle.c_tree.specs.TUnit.{TypedUnit}
 use Rattle.c_join.specs.JoinTypes.{Relation}
 use Rattle.c_join.specs.JoinSaid.{facts}
-use Rattle.c_join.specs.JoinChecks.{Refusal, Twice, Undefined, Clash, Arguments, refusal, first_with, is_twice, is_undefined, is_clash, is_misfit, same_class, IsJoined}
-use Rattle.c_limit.specs.Made.{IsMade}
+use Rattle.c_join.specs.JoinChecks.{Refusal, Twice, Undefined, Clash, Arguments, refusal, first_with, is_twice, is_undefined, is_clash, is_misfit, same_class}
 use Rattle.c_limit.specs.Laws.{WholeIsPart}
 
 -- nothing stands where neither of two does

@@ -1,7 +1,6 @@
 -- Laws of edges, limits and made programs.
-use Rattle.std.specs.Prelude.{◌≡◌, ◌+◌, ℕ, List, true, false, None}
+use Rattle.std.specs.Prelude.{◌≡◌, ◌+◌, ℕ, List, true, false}
 use Rattle.std.specs.List.{filter_map, flat_map}
-use Rattle.c_type.specs.Types.{CType}
 use Rattle.c_tree.specs.TUnit.{TypedUnit, Program, Func}
 use Rattle.c_tree.specs.Bodies.{bodies}
 use Rattle.c_run.specs.Context.{Context, linked}

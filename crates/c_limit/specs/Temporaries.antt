@@ -1,6 +1,6 @@
 -- The temporaries of expressions and functions.
 -- It states docs/LANGUAGE.md, section Limits.
-use Rattle.std.specs.Prelude.{ℕ, zero, suc, ◌+◌, max, min, List, [], ◌∷◌, Option, Some, None, Bool, true, false}
+use Rattle.std.specs.Prelude.{ℕ, suc, ◌+◌, max, min, List, [], ◌∷◌, Option, Some, None, Bool, true, false}
 use Rattle.c_tree.specs.TExpr as e
 use Rattle.c_tree.specs.TExpr.{TExpr, TArgs, Ref}
 use Rattle.c_tree.specs.TStmt as st

@@ -92,11 +92,7 @@ fn first_function(alloc: Global, unit: &TypedUnit) -> Result<Option<LimitErr>, A
 
 /// The refusal of a function whose frame has more than 16,777,216 bytes.
 #[tactic(auto, unfolding(crate::specs::Limits::frame_limit))]
-fn frame_refusal(
-    alloc: Global,
-    func: &TFunc,
-    tags: &Tags,
-) -> Result<Option<LimitErr>, AllocError>
+fn frame_refusal(alloc: Global, func: &TFunc, tags: &Tags) -> Result<Option<LimitErr>, AllocError>
     ensures { IfOk result (λ o. option_map excess_of o ≡ option_map Some (first_passed (frame_limit (tags_of tags.now) (func_of func.now) ∷ []))) }
 {
     let parts = parts(alloc, func)?;

@@ -15,10 +15,10 @@ mod types;
 pub use checks::{frames_are_of_units, frames_fit, names_fit, temporaries_fit};
 pub use frame::{frame_is_of_parts, frame_of_parts};
 pub use names::{Named, NamedType, declared_names};
-pub use parts::{Part, parts as parts_of_body};
-pub use temporaries::{temporaries as temporaries_of, temporaries_of_parts};
 use num_le::Name;
+pub use parts::{Part, parts as parts_of_body};
 use std::alloc::AllocError;
+pub use temporaries::{temporaries as temporaries_of, temporaries_of_parts};
 pub use texts::texts_fit;
 pub use types::{arrays, derivations, greatest_dimension, greatest_part, size_in};
 

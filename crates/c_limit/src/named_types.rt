@@ -31,9 +31,7 @@ fn derivation_count(ty: &NamedType<'_>) -> u64
 {
     match *ty {
         NamedType::Whole(ty) => derivations(ty),
-        NamedType::Parameter(CType::Fun(outcome)) => {
-            derivations(outcome).saturating_add(2)
-        }
+        NamedType::Parameter(CType::Fun(outcome)) => { derivations(outcome).saturating_add(2) }
         NamedType::Parameter(ty) => derivations(ty),
         NamedType::Function(outcome) => derivations(outcome).saturating_add(1),
         NamedType::Struct(_) | NamedType::Enum(_) => 0,

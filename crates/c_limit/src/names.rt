@@ -80,11 +80,7 @@ fn add_mems<'a>(
 }
 
 #[cycle(add_specs)]
-fn add_spec<'a>(
-    spec: &'a TSpec,
-    tags: &'a Tags,
-    out: &mut Vec<Named<'a>>,
-) -> Result<(), AllocError>
+fn add_spec<'a>(spec: &'a TSpec, tags: &'a Tags, out: &mut Vec<Named<'a>>) -> Result<(), AllocError>
     ensures added { IfOk result (λ _. all_named_of out.new.items ≡ all_named_of out.old.items ++ s.named_spec (tags_of tags.now) (spec_of spec.now)) }
 {
     match spec {

@@ -1,11 +1,9 @@
 -- The first among all is the first among what is left.
 use Rattle.std.proofs.Common.{◌≡◌, map, drop}
-use Rattle.std.specs.List.{flat_map}
 use Rattle.c_tree.specs.TUnit.{funcs_of}
 use Rattle.c_tree.specs.TypedOf.{ext_of, unit_of}
 use Rattle.c_limit.specs.Limits.{limit, first_passed, temporary_limits, Temporaries}
 use Rattle.c_limit.specs.Temporaries.{of_func}
-use Rattle.c_limit.specs.UnitLimits.{limits_at}
 use Rattle.c_limit.proofs.checks.first_function.Given as goal
 
 abbrev pub invariant-loop-ext : goal.invariant-loop-ext

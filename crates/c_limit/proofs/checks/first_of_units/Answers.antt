@@ -1,5 +1,5 @@
 -- The first unit in which a limit is passed says which.
-use Rattle.std.proofs.Common.{◌≡◌, ◌<◌, length, sym, ap, ◌∙◌, arith}
+use Rattle.std.proofs.Common.{sym, ap, ◌∙◌, arith}
 use Rattle.std.specs.Option.{option_map}
 use Rattle.c_limit.specs.Errors.{excess_of}
 use Rattle.c_limit.specs.UnitLimits.{limits_at}

@@ -1,11 +1,11 @@
 -- The limits on names are checked one behind the other.
-use Rattle.std.proofs.Common.{◌≡◌, List, map, None, ◌++◌, ◌∙◌, sym}
+use Rattle.std.proofs.Common.{List, map, ◌++◌, ◌∙◌}
 use Rattle.std.specs.List.{flat_map}
 use Rattle.c_tree.specs.TypedOf.{unit_of}
 use Rattle.c_tree.specs.declared.typed_unit.TypedUnit.{TypedUnit}
 use Rattle.c_limit.specs.Errors.{excess_of}
-use Rattle.c_limit.specs.Limits.{Limit, first_passed, object_limits, derivation_limits, dimension_limits}
-use Rattle.c_limit.proofs.FirstPassed.{IsFirst, told, told-none, first-before, first-behind, passed-behind}
+use Rattle.c_limit.specs.Limits.{Limit, object_limits, derivation_limits, dimension_limits}
+use Rattle.c_limit.proofs.FirstPassed.{told, told-none, first-before, first-behind, passed-behind}
 use Rattle.c_limit.proofs.checks.names_fit.Goals as goal
 
 abbrev objects : List TypedUnit → List Limit

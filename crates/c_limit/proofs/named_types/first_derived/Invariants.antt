@@ -1,9 +1,7 @@
 -- The first among all is the first among what is left.
 use Rattle.std.proofs.Common.{◌≡◌, map, drop, length}
-use Rattle.std.specs.List.{flat_map}
-use Rattle.c_type.specs.Of.{tags_of}
 use Rattle.type_word.specs.Words.{derivations}
-use Rattle.c_limit.specs.Limits.{greatest_part, limit, first_passed, dimension_limits_of, Object, Derivations}
+use Rattle.c_limit.specs.Limits.{limit, first_passed, Derivations}
 use Rattle.c_limit.specs.Of.{all_named_of}
 use Rattle.c_limit.proofs.named_types.first_derived.Given as goal
 

@@ -1,10 +1,8 @@
-use Rattle.std.proofs.Common.{◌≡◌, ap, ◌∙◌, ◌∷◌, [], map, ◌++◌}
+use Rattle.std.proofs.Common.{ap, ◌∙◌}
 use Rattle.std.proofs.lemmas.List.{map-append}
-use Rattle.c_type.specs.Names.{Name}
 use Rattle.c_type.specs.Types.{struct}
 use Rattle.c_type.specs.Of.{tags_of}
 use Rattle.c_limit.specs.Of.{named_of, all_named_of}
-use Rattle.c_limit.specs.Names as d
 use Rattle.c_limit.proofs.Rows.{struct_adds}
 use Rattle.c_limit.proofs.names.+add_specs.Goals as goal
 

@@ -1,11 +1,8 @@
 -- What was added and what is left is the whole.
 use Rattle.std.proofs.Common.{◌≡◌, ◌++◌, map, drop}
-use Rattle.std.specs.List.{flat_map, filter_map}
-use Rattle.c_type.specs.Of.{tags_of}
-use Rattle.c_tree.specs.TypedOf.{declr_of, typed_item_of, par_of, ext_of, unit_of}
+use Rattle.c_tree.specs.TypedOf.{declr_of}
 use Rattle.c_limit.specs.Names as s
-use Rattle.c_limit.specs.Parts.{local_in}
-use Rattle.c_limit.specs.Of.{parts_of, mems_from, all_named_of}
+use Rattle.c_limit.specs.Of.{all_named_of}
 use Rattle.c_limit.proofs.names.add_parameters.Given as goal
 
 abbrev pub invariant-loop-declr : goal.invariant-loop-declr

@@ -1,7 +1,5 @@
-use Rattle.std.proofs.Common.{◌≡◌, ap, ◌∙◌, ◌∷◌, [], map, ◌++◌}
+use Rattle.std.proofs.Common.{ap, ◌∙◌}
 use Rattle.std.proofs.lemmas.List.{map-append}
-use Rattle.c_tree.specs.TypedOf.{expr_of}
-use Rattle.c_limit.specs.Parts.{Evaluates}
 use Rattle.c_limit.specs.Of.{part_of, parts_of}
 use Rattle.c_limit.proofs.Rows.{switch_adds, block_adds}
 use Rattle.c_limit.proofs.parts.+add_parts.Goals as goal

@@ -1,4 +1,4 @@
-use Rattle.std.proofs.Common.{◌≡◌, sym, ◌∙◌, max, ap}
+use Rattle.std.proofs.Common.{sym, ◌∙◌, ap}
 use Rattle.c_tree.specs.TypedOf.{expr_of}
 use Rattle.c_limit.specs.Temporaries as s
 use Rattle.c_limit.specs.Temporaries.{counted}
