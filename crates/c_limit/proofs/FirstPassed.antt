@@ -1,5 +1,5 @@
 -- The first limit that is passed among several lists.
-use Rattle.std.proofs.Common.{◌≡◌, ◌<◌, ℕ, suc, ◌+◌, List, [], ◌∷◌, ◌++◌, length, map, drop, get_or, Option, Some, None, IfSome, Bool, true, false, nat_lt, refl, sym, ap, ◌∙◌, subst, drop-cons, add-one}
+use Rattle.std.proofs.Common.{◌≡◌, ◌<◌, ◌≤◌, arith, ℕ, suc, ◌+◌, List, [], ◌∷◌, ◌++◌, length, map, drop, get_or, Option, Some, None, IfSome, Bool, true, false, nat_lt, refl, sym, ap, ◌∙◌, subst, drop-cons, add-one}
 use Rattle.std.specs.List.{flat_map}
 use Rattle.std.specs.Option.{option_map}
 use Rattle.c_type.specs.Names.{pick, or_else}
@@ -8,7 +8,9 @@ use Rattle.c_tree.specs.TypedOf.{unit_of}
 use Rattle.c_tree.specs.declared.typed_unit.TypedUnit.{TypedUnit}
 use Rattle.c_limit.specs.declared.LimitErr.{LimitErr}
 use Rattle.c_limit.specs.Errors.{excess_of}
-use Rattle.c_limit.specs.Limits.{Limit, Excess, first_passed}
+use Rattle.c_limit.specs.Limits.{Limit, Excess, first_passed, AreKept}
+use Rattle.c_limit.specs.Laws.{NoneIsPassed}
+use Rattle.std.proofs.lemmas.Bool.Decides.{nat_tests}
 
 one_more : (b : Bool) (w : Excess) (m n l : Option Excess) → m ≡ or_else n l → pick b (Some w) m ≡ or_else (pick b (Some w) n) l
 one_more true w m n l e = refl
@@ -91,3 +93,26 @@ pub told-none : (F : u.TypedUnit → List Limit) (xs ys : List TypedUnit) (o : O
     → option_map excess_of o ≡ option_map Some (first_passed (flat_map F (map unit_of xs))) → o ≡ None → first_passed (flat_map F (map unit_of ys)) ≡ None
 told-none F xs ys o same found is =
     found-none (flat_map F (map unit_of ys)) (sym (ap (option_map excess_of) is) ∙ (found ∙ ap (λ zs. option_map Some (first_passed (flat_map F (map unit_of zs)))) same))
+
+kept_by : (b : Bool) (w : Excess) (o : Option Excess) → pick b (Some w) o ≡ None → (b ≡ false) × (o ≡ None)
+kept_by true w o e = absurd (cc)
+kept_by false w o e = (refl, e)
+
+not_above : (g q : ℕ) → nat_lt g q ≡ false → q ≤ g
+not_above g q e = grind (arith, nat_tests)
+
+not_passed : (g q : ℕ) → q ≤ g → nat_lt g q ≡ false
+not_passed g q h = grind (arith, nat_tests)
+
+none-kept : (xs : List Limit) → first_passed xs ≡ None → AreKept xs
+none-kept [] e = tt
+none-kept (x ∷ xs) e =
+    let both = kept_by (nat_lt x.greatest x.quantity) x.excess (first_passed xs) e in
+    (not_above x.greatest x.quantity both.0, none-kept xs both.1)
+
+kept-none : (xs : List Limit) → AreKept xs → first_passed xs ≡ None
+kept-none [] h = refl
+kept-none (x ∷ xs) h = ap (λ b. pick b (Some x.excess) (first_passed xs)) (not_passed x.greatest x.quantity h.0) ∙ kept-none xs h.1
+
+pub none_is_passed : NoneIsPassed
+none_is_passed xs = (none-kept xs, kept-none xs)

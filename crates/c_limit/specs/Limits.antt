@@ -1,6 +1,6 @@
 -- The limits on programs: each quantity with its greatest number, in the order in which they are checked.
 -- It states docs/LANGUAGE.md, section Limits.
-use Rattle.std.specs.Prelude.{ℕ, suc, ◌+◌, max, sum, List, [], ◌∷◌, ◌++◌, length, map, Option, Some, None, Bool, true, false, nat_lt, filter, not}
+use Rattle.std.specs.Prelude.{◌≤◌, ℕ, suc, ◌+◌, max, sum, List, [], ◌∷◌, ◌++◌, length, map, Option, Some, None, Bool, true, false, nat_lt, filter, not}
 use Rattle.std.specs.List.{flat_map}
 use Rattle.c_type.specs.Names.{Name, pick}
 use Rattle.c_type.specs.Types.{CType, num, void, ptr, arr, struct, union, enum, fun, Tag}
@@ -15,7 +15,7 @@ use Rattle.c_run.specs.Place.{lasting_size}
 use Rattle.c_run.specs.Calls.{frame_of}
 use Rattle.type_word.specs.Words.{derivations, dimensions_of}
 use Rattle.c_limit.specs.Parts.{Part, Declares, Evaluates, parts}
-use Rattle.c_limit.specs.Names.{Named, named}
+use Rattle.c_limit.specs.Names.{Named, declared_names}
 use Rattle.c_limit.specs.Temporaries.{of_func}
 
 -- the bytes of the automatic object that a declarator makes
@@ -62,6 +62,11 @@ limit q g e = record { quantity = q; greatest = g; excess = e }
 abbrev pub first_passed : List Limit → Option Excess
 first_passed [] = None
 first_passed (x ∷ xs) = pick (nat_lt x.greatest x.quantity) (Some x.excess) (first_passed xs)
+
+-- no quantity is above its greatest number
+abbrev pub AreKept : List Limit → Type 0
+AreKept [] = Unit {0}
+AreKept (x ∷ xs) = (x.quantity ≤ x.greatest) × AreKept xs
 
 -- starts and functions of a unit
 abbrev pub start_count : TypedUnit → ℕ
@@ -111,10 +116,10 @@ greatest_part ts (fun t) = greatest_part ts t
 
 -- limits of each declared name of a unit
 abbrev pub object_limits : TypedUnit → List Limit
-object_limits x = map (λ d. limit (greatest_part x.tags d.ty) 65535 (Object d.name)) (named x)
+object_limits x = map (λ d. limit (greatest_part x.tags d.ty) 65535 (Object d.name)) (declared_names x)
 
 abbrev pub derivation_limits : TypedUnit → List Limit
-derivation_limits x = map (λ d. limit (length (derivations d.ty)) 6 (Derivations d.name)) (named x)
+derivation_limits x = map (λ d. limit (length (derivations d.ty)) 6 (Derivations d.name)) (declared_names x)
 
 -- array derivations, and each dimension
 abbrev pub dimension_limits_of : Named → List Limit
@@ -122,7 +127,7 @@ dimension_limits_of d =
     limit (length (dimensions_of d.ty)) 4 (Dimensions d.name) ∷ (limit (greatest_of (dimensions_of d.ty)) 65535 (Dimensions d.name) ∷ [])
 
 abbrev pub dimension_limits : TypedUnit → List Limit
-dimension_limits x = flat_map dimension_limits_of (named x)
+dimension_limits x = flat_map dimension_limits_of (declared_names x)
 
 -- limits of each function
 abbrev pub temporary_limits : TypedUnit → List Limit

@@ -65,5 +65,5 @@ named_ext ts (u.object s is) = named_spec ts s ++ map (λ i. of_declr i.declr) i
 named_ext ts (u.func s f) = named_spec ts s ++ named_func ts f
 
 -- the declared names of a unit, and its tags at their closing braces
-abbrev pub named : TypedUnit → List Named
-named x = flat_map (named_ext x.tags) x.exts
+abbrev pub declared_names : TypedUnit → List Named
+declared_names x = flat_map (named_ext x.tags) x.exts

@@ -19,13 +19,13 @@ use Rattle.c_limit.specs.declared.names.NamedType.TheVariants as n
 use Rattle.c_limit.specs.Names as d
 
 -- a part of a body
-abbrev pub part_of : Part → s.Part
-part_of (p.Declares d) = s.Declares (local_of d.now)
-part_of (p.Evaluates e) = s.Evaluates (expr_of e.now)
+abbrev pub body_part_of : Part → s.Part
+body_part_of (p.Declares d) = s.Declares (local_of d.now)
+body_part_of (p.Evaluates e) = s.Evaluates (expr_of e.now)
 
 -- parts in order
 abbrev pub parts_of : List Part → List s.Part
-parts_of xs = map part_of xs
+parts_of xs = map body_part_of xs
 
 -- the arguments of a list
 abbrev pub args_from : List TExpr → e.TArgs

@@ -1,7 +1,7 @@
 //! The limits on programs, and the edges and starts by which code and debug groups are numbered.
 #![tactic(auto)]
 
-ghost use Rattle.c_limit.specs.Laws.{EdgesHaveStarts, WholeIsPart};
+ghost use Rattle.c_limit.specs.Laws.{EdgesHaveStarts, WholeIsPart, NoneIsPassed};
 
 mod checks;
 mod frame;
@@ -68,6 +68,13 @@ pub fn edges_have_starts()
 /// What is made of a whole program holds of a part.
 pub fn whole_is_part()
     ensures law { WholeIsPart }
+{
+    // The law is all that is promised.
+}
+
+/// No limit of a list is passed exactly where each quantity is at most its greatest number.
+pub fn none_is_passed()
+    ensures law { NoneIsPassed }
 {
     // The law is all that is promised.
 }

@@ -200,7 +200,7 @@ fn add_func<'a>(
 
 /// The declared names of a unit, and its tags at their closing braces, in textual order.
 pub fn declared_names(alloc: Global, unit: &TypedUnit) -> Result<Vec<Named<'_>>, AllocError>
-    ensures { IfOk result (λ v. all_named_of v.items ≡ s.named (unit_of unit.now)) }
+    ensures { IfOk result (λ v. all_named_of v.items ≡ s.declared_names (unit_of unit.now)) }
 {
     let mut out = Vec::new(alloc);
     for ext in &unit.exts {

@@ -2,7 +2,7 @@
 ghost use Rattle.std.specs.Prelude.{◌≡◌, map};
 ghost use Rattle.c_tree.specs.TypedOf.{ref_of, expr_of, declr_of, init_of, begin_of, local_of};
 ghost use Rattle.c_limit.specs.Temporaries as s;
-ghost use Rattle.c_limit.specs.Of.{args_from, inits_from, part_of, parts_of};
+ghost use Rattle.c_limit.specs.Of.{args_from, inits_from, body_part_of, parts_of};
 
 use crate::parts::Part;
 use c_tree::{Ref, TExpr, TInit, TLocal};

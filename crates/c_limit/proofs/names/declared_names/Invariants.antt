@@ -7,4 +7,4 @@ use Rattle.c_limit.specs.Of.{all_named_of}
 use Rattle.c_limit.proofs.names.declared_names.Given as goal
 
 abbrev pub invariant-loop-ext : goal.invariant-loop-ext
-invariant-loop-ext l = all_named_of l.out.items ++ flat_map (s.named_ext (unit_of l.unit).tags) (map ext_of (drop l.ext-index l.ext-items)) ≡ s.named (unit_of l.unit)
+invariant-loop-ext l = all_named_of l.out.items ++ flat_map (s.named_ext (unit_of l.unit).tags) (map ext_of (drop l.ext-index l.ext-items)) ≡ s.declared_names (unit_of l.unit)
