@@ -6,6 +6,7 @@
 
 mod brackets;
 mod error;
+mod found;
 mod front;
 mod nodes;
 mod places;
@@ -58,6 +59,3 @@ pub fn brackets_are_few()
 {
     // The law is all that is promised.
 }
-
-#[cfg(test)]
-mod tests;

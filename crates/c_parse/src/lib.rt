@@ -8,6 +8,8 @@
 
 mod brackets;
 mod depth;
+mod forms;
+mod nodes;
 mod parts;
 mod places;
 mod statements;
@@ -44,6 +46,3 @@ pub fn what_is_read_is_spelled()
 {
     // The law is all that is promised.
 }
-
-#[cfg(test)]
-mod tests;

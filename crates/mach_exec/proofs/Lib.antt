@@ -1,1 +1,2 @@
 pub mod EachByte
+pub mod Stopping

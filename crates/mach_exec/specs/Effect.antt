@@ -7,6 +7,7 @@ use Rattle.mach_exec.specs.declared.processor.Event.TheVariants.{Next, Signal}
 use Rattle.mach_exec.specs.declared.operand.Place.{Place}
 use Rattle.mach_exec.specs.declared.operand.Place.TheVariants.{Register, Memory}
 use Rattle.mach_exec.specs.Word.{add32, sub32}
+use Rattle.mach_exec.specs.Registers.{esp}
 use Rattle.mach_exec.specs.Operand.{reg, with_reg, with_reg8, with_reg16}
 
 -- an event, and the processor and the memory behind it
@@ -46,8 +47,8 @@ storing8 c m (Memory at) b after = if is_writable m at then done after (with_byt
 
 -- a number is pushed: esp goes down by 4, and the number stands there
 abbrev pub pushing : Cpu → Space → ℕ → Cpu → Outcome
-pushing c m v after = storing c m (Memory (sub32 (reg c 4) 4)) v (with_reg after 4 (sub32 (reg c 4) 4))
+pushing c m v after = storing c m (Memory (sub32 (reg c esp) 4)) v (with_reg after esp (sub32 (reg c esp) 4))
 
 -- a number is popped: it stands at esp, and esp goes up by 4
 abbrev pub popping : Cpu → Space → (ℕ → Cpu → Outcome) → Outcome
-popping c m f = reading c m (number_at (byte_at m) (reg c 4)) (λ v. f v (with_reg c 4 (add32 (reg c 4) 4)))
+popping c m f = reading c m (number_at (byte_at m) (reg c esp)) (λ v. f v (with_reg c esp (add32 (reg c esp) 4)))

@@ -28,6 +28,7 @@ use Rattle.mach_exec.specs.declared.operand.Place.{Place}
 use Rattle.mach_exec.specs.declared.operand.Place.TheVariants.{Register}
 use Rattle.mach_exec.specs.Word.{add32, mul32, not32, sub32, sign, signed_byte, signed_word}
 use Rattle.mach_exec.specs.Flags.{arith_result, arith_flags, logic_flags, sub_flags, product_flags, shift_result, shift_flags, holds, fits_signed}
+use Rattle.mach_exec.specs.Registers.{eax, ecx, edx, esp, ebp, esi, edi}
 use Rattle.mach_exec.specs.Operand.{reg, reg8, reg16, with_reg, with_reg8, flags, with_flags, at_next, place_of, address_of, value, value8, value16}
 use Rattle.mach_exec.specs.Effect.{Outcome, done, signalled, reading, storing, storing8, storing16, pushing, popping}
 use Rattle.mach_exec.specs.Strings.{is_readable, each_byte, copied, filled}
@@ -43,7 +44,7 @@ arith c m op at a b next = storing c m at (arith_result op a b) (with_flags (at_
 
 -- the number in edx and eax
 abbrev pub dividend : Cpu → ℕ
-dividend c = reg c 2 * 2 ^ 32 + reg c 0
+dividend c = reg c edx * 2 ^ 32 + reg c eax
 
 -- divl: quotient and remainder, where the quotient fits
 abbrev pub unsigned_parts : ℕ → ℕ → Option (ℕ × ℕ)
@@ -74,7 +75,7 @@ division_parts Signed n d = signed_parts n d
 -- quotient to eax and remainder to edx; signal 8 where the quotient doesn't fit
 abbrev pub divided : Cpu → Space → Option (ℕ × ℕ) → ℕ → Outcome
 divided c m None next = signalled c m 8
-divided c m (Some parts) next = done (with_reg (with_reg (at_next c next) 0 parts.0) 2 parts.1) m
+divided c m (Some parts) next = done (with_reg (with_reg (at_next c next) eax parts.0) edx parts.1) m
 
 -- edx and eax by d; signal 8 for a divisor 0 too
 abbrev pub divide : Cpu → Space → DivideOp → ℕ → ℕ → Outcome
@@ -95,17 +96,17 @@ target next (Short d) = add32 next (cast_unsigned w32 d)
 -- rep movsb: ecx bytes from esi on to edi on, all of them or none
 abbrev pub moving : Cpu → Space → ℕ → Outcome
 moving c m next =
-    let n = reg c 1 in
-    if each_byte (is_readable m) (reg c 6) n && each_byte (is_writable m) (reg c 7) n
-    then done (with_reg (with_reg (with_reg (at_next c next) 1 0) 6 (add32 (reg c 6) n)) 7 (add32 (reg c 7) n)) (copied m (reg c 6) (reg c 7) n)
+    let n = reg c ecx in
+    if each_byte (is_readable m) (reg c esi) n && each_byte (is_writable m) (reg c edi) n
+    then done (with_reg (with_reg (with_reg (at_next c next) ecx 0) esi (add32 (reg c esi) n)) edi (add32 (reg c edi) n)) (copied m (reg c esi) (reg c edi) n)
     else signalled c m 11
 
 -- rep stosb: ecx bytes from edi on become al, all of them or none
 abbrev pub filling : Cpu → Space → ℕ → Outcome
 filling c m next =
-    let n = reg c 1 in
-    if each_byte (is_writable m) (reg c 7) n
-    then done (with_reg (with_reg (at_next c next) 1 0) 7 (add32 (reg c 7) n)) (filled m (reg c 7) (reg8 c 0) n)
+    let n = reg c ecx in
+    if each_byte (is_writable m) (reg c edi) n
+    then done (with_reg (with_reg (at_next c next) ecx 0) edi (add32 (reg c edi) n)) (filled m (reg c edi) (reg8 c eax) n)
     else signalled c m 11
 
 -- each row of the table, `next` being the address behind the instruction
@@ -140,9 +141,9 @@ executed c m (Unary Neg rm) next = reading_operand c m rm (λ a. storing c m (pl
 -- divl rm; idivl rm
 executed c m (Divide op rm) next = reading_operand c m rm (λ d. divide c m op d next)
 -- cltd
-executed c m Cltd next = done (with_reg (at_next c next) 2 (if sign (reg c 0) then 2 ^ 32 - 1 else 0)) m
+executed c m Cltd next = done (with_reg (at_next c next) edx (if sign (reg c eax) then 2 ^ 32 - 1 else 0)) m
 -- shll, shrl, sarl %cl, rm: the count is cl modulo 32
-executed c m (Shift op rm) next = reading_operand c m rm (λ a. storing c m (place_of c rm) (shift_result op a (reg c 1 % 32)) (with_flags (at_next c next) (shift_flags (flags c) op a (reg c 1 % 32))))
+executed c m (Shift op rm) next = reading_operand c m rm (λ a. storing c m (place_of c rm) (shift_result op a (reg c ecx % 32)) (with_flags (at_next c next) (shift_flags (flags c) op a (reg c ecx % 32))))
 -- setcc rm8
 executed c m (Set cc rm) next = storing8 c m (place_of c rm) (if holds cc (flags c) then 1 else 0) (at_next c next)
 -- movsbl, movswl, movzbl, movzwl rm, r
@@ -155,7 +156,7 @@ executed c m (Jump to) next = done (at_next c (target next to)) m
 executed c m (Branch cc to) next = done (at_next c (if holds cc (flags c) then target next to else next)) m
 -- ret; leave; nop
 executed c m (Plain Ret) next = popping c m (λ v up. done (at_next up v) m)
-executed c m (Plain Leave) next = reading c m (number_at (byte_at m) (reg c 5)) (λ v. done (with_reg (with_reg (at_next c next) 4 (add32 (reg c 5) 4)) 5 v) m)
+executed c m (Plain Leave) next = reading c m (number_at (byte_at m) (reg c ebp)) (λ v. done (with_reg (with_reg (at_next c next) esp (add32 (reg c ebp) 4)) ebp v) m)
 executed c m (Plain Nop) next = done (at_next c next) m
 -- int3
 executed c m Int3 next = record { event = Trap; cpu = at_next c next; mem = m }

@@ -1,5 +1,6 @@
 -- *Step386*: one step of the 386, over registers, flags and memory.
 use Rattle.std.specs.Prelude.{◌≡◌, ℕ, ◌+◌, ◌-◌, ◌%◌, ◌^◌, nat_le, if◌then◌else◌, List, [], drop}
+use Rattle.mach_mem.specs.Addresses.{text_start}
 use Rattle.mach_mem.specs.Space.{Space}
 use Rattle.isa_dec.specs.Decoded.{decoded}
 use Rattle.isa_dec.specs.Reads.{Reads}
@@ -11,7 +12,7 @@ use Rattle.mach_exec.specs.Execute.{executed}
 
 -- the bytes of .text from this address on
 abbrev pub text_from : Space → ℕ → List ℕ
-text_from m at = if nat_le 0x10000 at then drop (at - 0x10000) m.text else []
+text_from m at = if nat_le text_start at then drop (at - text_start) m.text else []
 
 -- signal 11 where the instruction goes on outside .text, signal 4 where it is none of the table
 abbrev pub decided : Cpu → Space → Dec → Outcome

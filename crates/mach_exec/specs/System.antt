@@ -3,6 +3,7 @@ use Rattle.std.specs.Prelude.{ℕ, ◌%◌, ◌==◌, min, Bool, true, false, if
 use Rattle.mach_mem.specs.Space.{Space, byte_at, number_at, is_writable}
 use Rattle.mach_exec.specs.declared.processor.Cpu.{Cpu}
 use Rattle.mach_exec.specs.Word.{add32}
+use Rattle.mach_exec.specs.Registers.{eax, esp}
 use Rattle.mach_exec.specs.Operand.{reg, with_reg}
 use Rattle.mach_exec.specs.Strings.{is_readable, each_byte, bytes_from, with_bytes}
 
@@ -16,11 +17,11 @@ with_cf c b = record { regs = c.regs; eip = c.eip; cf = b; zf = c.zf; sf = c.sf;
 
 -- CF is clear and eax has the answer
 abbrev pub succeeded : Cpu → Space → List ℕ → List ℕ → ℕ → Called
-succeeded c m input output answer = Returned (with_cf (with_reg c 0 answer) false) m input output
+succeeded c m input output answer = Returned (with_cf (with_reg c eax answer) false) m input output
 
 -- CF is set and eax has the error, and nothing else has changed
 abbrev pub failed : Cpu → Space → List ℕ → ℕ → Called
-failed c m input error = Returned (with_cf (with_reg c 0 error) true) m input []
+failed c m input error = Returned (with_cf (with_reg c eax error) true) m input []
 
 -- the errors: no such descriptor, a place that can't be reached, no such call
 abbrev pub bad_descriptor : ℕ
@@ -34,7 +35,7 @@ bad_call = 22
 
 -- an argument, which stands so many bytes above esp
 abbrev pub argument : Cpu → Space → ℕ → Option ℕ
-argument c m at = number_at (byte_at m) (add32 (reg c 4) at)
+argument c m at = number_at (byte_at m) (add32 (reg c esp) at)
 
 -- exit: the low byte is the status
 abbrev pub exited : Cpu → Space → List ℕ → Option ℕ → Called
@@ -65,7 +66,7 @@ transferred c m input descriptor (Some d) (Some at) None f = failed c m input ba
 -- the system call whose number is in eax: exit 1, read 3 of descriptor 0, write 4 of descriptor 1
 unfoldable pub called : Cpu → Space → List ℕ → Called
 called c m input =
-    if reg c 0 == 1 then exited c m input (argument c m 4)
-    else if reg c 0 == 3 then transferred c m input 0 (argument c m 4) (argument c m 8) (argument c m 12) (λ at n. stored c m input at (min n (length input)))
-    else if reg c 0 == 4 then transferred c m input 1 (argument c m 4) (argument c m 8) (argument c m 12) (λ at n. appended c m input at (min n 4096))
+    if reg c eax == 1 then exited c m input (argument c m 4)
+    else if reg c eax == 3 then transferred c m input 0 (argument c m 4) (argument c m 8) (argument c m 12) (λ at n. stored c m input at (min n (length input)))
+    else if reg c eax == 4 then transferred c m input 1 (argument c m 4) (argument c m 8) (argument c m 12) (λ at n. appended c m input at (min n 4096))
     else failed c m input bad_call

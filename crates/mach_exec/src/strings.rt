@@ -11,8 +11,9 @@ use crate::{Cpu, Event};
 use isa386::StringOp;
 use mach_mem::{Mem, Regions};
 
+/// Whether each of the n bytes from an address on can be read. Addresses wrap.
 #[tactic(auto, using(crate::proofs::EachByte::each_byte_steps))]
-fn can_read_all(mem: &Regions, at: u32, n: u32) -> bool
+pub fn can_read_all(mem: &Regions, at: u32, n: u32) -> bool
     ensures { result ≡ each_byte (is_readable mem.now) at n }
 {
     for k in 0..n {

@@ -1,5 +1,6 @@
 -- The memory of a program: its text, its statics and its stack.
 use Rattle.std.specs.Prelude.{ℕ, ◌+◌, ◌-◌, ◌*◌, ◌%◌, ◌/◌, ◌&&◌, ◌<◌, ◌≤◌, ◌≡◌, ◌≢◌, Bool, false, nat_le, nat_lt, if◌then◌else◌, List, length, Option, Some, None, slice_get, slice_index, slice_set}
+use Rattle.mach_mem.specs.Addresses.{text_start, statics_start, stack_start, stack_end, stack_room}
 
 -- the bytes of the three regions; the statics are the data and, behind it, the bss
 pub record Space : Type 0 where
@@ -7,29 +8,29 @@ pub record Space : Type 0 where
   pub statics : List ℕ
   pub stack : List ℕ
 
--- the byte at this address: the text from 0x10000, the statics from 0x400000, the stack from 0x7FC00000 to 0x7FFFFFFF
+-- the byte at this address, in the text, in the statics or in the stack
 abbrev pub byte_at : Space → ℕ → Option ℕ
 byte_at m at =
-    if nat_le 0x80000000 at then None
-    else if nat_le 0x7FC00000 at then slice_get m.stack (at - 0x7FC00000)
-    else if nat_le 0x400000 at then slice_get m.statics (at - 0x400000)
-    else if nat_le 0x10000 at then slice_get m.text (at - 0x10000)
+    if nat_le stack_end at then None
+    else if nat_le stack_start at then slice_get m.stack (at - stack_start)
+    else if nat_le statics_start at then slice_get m.statics (at - statics_start)
+    else if nat_le text_start at then slice_get m.text (at - text_start)
     else None
 
 -- an address where a byte can be written: in the statics or in the stack
 abbrev pub is_writable : Space → ℕ → Bool
 is_writable m at =
-    if nat_le 0x80000000 at then false
-    else if nat_le 0x7FC00000 at then nat_lt (at - 0x7FC00000) (length m.stack)
-    else if nat_le 0x400000 at then nat_lt (at - 0x400000) (length m.statics)
+    if nat_le stack_end at then false
+    else if nat_le stack_start at then nat_lt (at - stack_start) (length m.stack)
+    else if nat_le statics_start at then nat_lt (at - statics_start) (length m.statics)
     else false
 
 -- the memory with this byte at this address, if one can be written there
 abbrev pub with_byte : Space → ℕ → ℕ → Space
 with_byte m at v =
-    if nat_le 0x80000000 at then m
-    else if nat_le 0x7FC00000 at then record { text = m.text; statics = m.statics; stack = slice_set m.stack (at - 0x7FC00000) v }
-    else if nat_le 0x400000 at then record { text = m.text; statics = slice_set m.statics (at - 0x400000) v; stack = m.stack }
+    if nat_le stack_end at then m
+    else if nat_le stack_start at then record { text = m.text; statics = m.statics; stack = slice_set m.stack (at - stack_start) v }
+    else if nat_le statics_start at then record { text = m.text; statics = slice_set m.statics (at - statics_start) v; stack = m.stack }
     else m
 
 -- one byte became v, and every other address tells what it told
@@ -87,4 +88,4 @@ pub record IsInitial (m : Space) (text init : List ℕ) (bss : ℕ) : Type 0 whe
   pub zero_behind : (k : ℕ) → length init ≤ k → slice_index m.statics k ≡ 0
   pub statics_end : length m.statics ≡ rounded (length init) + bss
   pub stack_zero : (k : ℕ) → slice_index m.stack k ≡ 0
-  pub stack_size : length m.stack ≡ 4194304
+  pub stack_size : length m.stack ≡ stack_room

@@ -1,5 +1,6 @@
 // The regions of a program.
 ghost use Rattle.std.specs.Prelude.{◌≡◌, ◌≤◌, ◌<◌, ◌+◌, ℕ, nat_lt, length, slice_index, slice_set, IfOk, IsTrue, IsFalse};
+ghost use Rattle.mach_mem.specs.Addresses.{text_room};
 ghost use Rattle.mach_mem.specs.Space.{byte_at, is_writable, is_writable2, is_writable4, with_byte, with_number16, with_number, IsInitial, SetsByte, rounded};
 
 use crate::Mem;
@@ -77,7 +78,7 @@ impl Regions {
     /// zeros everywhere else. .bss has `bss` bytes, and begins at the first multiple of 4 behind
     /// .data; the bytes between them belong to the statics too.
     pub fn new(alloc: Global, text: &[u8], init: &[u8], bss: u32) -> Result<Regions, AllocError>
-        requires text_fits { length text.now ≤ 4128768 }
+        requires text_fits { length text.now ≤ text_room }
         requires statics_fit { length init.now + bss ≤ 16777216 }
         ensures initial { IfOk result (λ m. IsInitial m text.now init.now bss) }
     {

@@ -1,33 +1,12 @@
 //! The tool chain of System V Release 3: compiles C files and runs them on the 386.
 #![tactic(auto)]
 
-ghost use Rattle.std.specs.Prelude.{◌≡◌, ◌≢◌, []};
-ghost use Rattle.std.specs.IoError.{error_kind};
-ghost use Rattle.svr3.specs.Lines.{line_of};
-
-mod answer;
-mod front;
-mod lines;
-mod machine;
-mod name_set;
-mod output;
-mod process;
-mod program;
-mod reading;
-mod real;
-mod small_form;
-mod top;
-mod words;
-
-use answer::{End, status};
 use outside::put_all;
-use real::{RealFiles, RealSink, RealSource};
+use real_io::{RealFiles, RealSink, RealSource};
 use std::env::Env;
-use std::io::ErrorKind;
 use std::process::ExitCode;
 use std::{env, io};
-use top::svr3;
-use words::Words;
+use top::{Words, status, svr3, unread};
 
 // The words of the command line, but for the program's own name.
 fn words_of<R: Env + AllocGlobal>(rt: &R) -> io::Result<Words> {
@@ -36,19 +15,6 @@ fn words_of<R: Env + AllocGlobal>(rt: &R) -> io::Result<Words> {
         words.push(word.as_str().as_bytes())?;
     }
     Ok(words)
-}
-
-// The end where the words can't be read, and its line: want of memory, or words that aren't text.
-fn unread(error: &io::Error) -> (End, &'static [u8])
-    ensures memory { error_kind error.now ≡ ErrorKind.OutOfMemory → result.0 ≡ End.Memory }
-    ensures usage { error_kind error.now ≢ ErrorKind.OutOfMemory → result.0 ≡ End.Usage }
-    ensures line { result.1.now ≡ line_of [] result.0 }
-{
-    if error.kind() == ErrorKind::OutOfMemory {
-        (End::Memory, b"svr3: memory\n")
-    } else {
-        (End::Usage, b"svr3: usage\n")
-    }
 }
 
 fn main(rt: HostRuntime) -> ExitCode {
@@ -75,8 +41,3 @@ fn main(rt: HostRuntime) -> ExitCode {
     );
     ExitCode::from(status(&end))
 }
-
-#[cfg(test)]
-mod real_tests;
-#[cfg(test)]
-mod tests;

@@ -1,0 +1,3 @@
+mod Firsts
+mod Fronting
+pub mod Causes

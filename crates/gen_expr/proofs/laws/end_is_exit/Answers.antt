@@ -1,5 +1,0 @@
-use Rattle.gen_expr.proofs.Plain.{ends_alike}
-use Rattle.gen_expr.proofs.laws.end_is_exit.Goals as goal
-
-pub returns : goal.returns
-returns c = record { law = ends_alike }

@@ -1,5 +1,0 @@
-use Rattle.gen_expr.proofs.Plain.{stops_alike}
-use Rattle.gen_expr.proofs.laws.stop_is_turn.Goals as goal
-
-pub returns : goal.returns
-returns c = record { law = stops_alike }

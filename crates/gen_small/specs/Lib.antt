@@ -1,0 +1,16 @@
+pub mod Ghost
+pub mod Items
+pub mod Spelled
+pub mod Code
+pub mod Agree
+pub mod Small
+pub mod Reaches
+pub mod Flows
+pub mod Emitted
+pub mod Laws
+pub mod Mains
+pub mod Forms
+pub mod Laid
+pub mod Whole
+pub mod Listed
+pub mod Placing

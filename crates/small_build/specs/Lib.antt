@@ -1,0 +1,3 @@
+pub mod SmallText
+pub mod Compiled
+pub mod Built

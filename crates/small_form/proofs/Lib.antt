@@ -1,0 +1,4 @@
+mod SmallTrees
+mod SmallTyped
+pub mod SmallUnit
+pub mod Shaped

@@ -1,0 +1,4 @@
+mod Sending
+mod Calling
+mod Executing
+pub mod Ending

@@ -1,9 +1,0 @@
-use Rattle.std.proofs.Common.{ap, refl}
-use Rattle.svr3.specs.Ended.{refused}
-use Rattle.svr3.specs.declared.answer.End.TheVariants.{Refused}
-use Rattle.svr3.proofs.top.run_texts.Goals as goal
-
-pub returns-in-Err-Refused : goal.returns-in-Err-Refused
-returns-in-Err-Refused g c =
-    let right = rw (c.in-Err-Refused.field-0-is) at c.in-Err-Refused.ensures.refused in
-    record { end = refused c.in-Err-Refused.refusal right (ap Refused c.in-Err-Refused.refusal-is) refl }

@@ -1,9 +1,0 @@
-use Rattle.std.proofs.Common.{◌≡◌, ◌≤◌, take}
-use Rattle.svr3.specs.Command.{digits_value}
-use Rattle.svr3.proofs.words.value.Given as goal
-
-abbrev pub invariant-loop-d : goal.invariant-loop-d
-invariant-loop-d l = record {
-  small : l.n ≤ 9223372036854775807;
-  so_far : l.n ≡ digits_value (take l.d-index l.digits);
-}

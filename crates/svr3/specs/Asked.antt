@@ -1,9 +1,0 @@
--- What the code takes words for.
-use Rattle.std.specs.Prelude.{◌≡◌, Option, Some, None}
-use Rattle.svr3.specs.Command as command
-use Rattle.svr3.specs.declared.words.Request.{Request}
-
--- the request that words ask for, or none
-abbrev pub Asks : Option Request → Option command.Request → Type 0
-Asks None asked = asked ≡ None
-Asks (Some a) asked = asked ≡ Some (command.asked_for a.files.now a.most)

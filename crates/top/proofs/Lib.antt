@@ -1,0 +1,5 @@
+mod Digits
+mod Wording
+mod Filing
+mod Causes
+mod Answering

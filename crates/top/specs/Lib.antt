@@ -1,0 +1,11 @@
+pub mod Command
+pub mod Asked
+pub mod Reading
+pub mod Status
+pub mod Outside
+pub mod MachineAnswers
+pub mod SourceAnswers
+pub mod TextsAnswer
+pub mod Answers
+pub mod Ended
+pub mod Lines
