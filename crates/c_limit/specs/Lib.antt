@@ -1,0 +1,10 @@
+pub mod Made
+pub mod Edges
+pub mod Parts
+pub mod Of
+pub mod Names
+pub mod Temporaries
+pub mod Limits
+pub mod UnitLimits
+pub mod Errors
+pub mod Laws
