@@ -1,0 +1,2 @@
+//! The definitions that code stands on.
+#![tactic(auto)]
