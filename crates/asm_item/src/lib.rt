@@ -15,11 +15,9 @@ mod rows;
 mod words;
 
 pub use args::{Arg, Number, Operand, Size};
-pub use model::{DefGroup, Field, Item, Items, Label, Val, Word};
+pub use isa386::Field;
+pub use model::{DefGroup, Item, Items, Label, Val, Word};
 pub use normal::{is_file, is_name, is_name_byte, is_normal};
 pub use printing::print;
 pub use registers::register_name;
 pub use words::Keyword;
-
-#[cfg(test)]
-mod tests;

@@ -1,20 +1,9 @@
 // The items of an assembly text.
 
-use isa386::Ins;
+use isa386::{Field, Ins};
 use num_le::Name;
 use std::alloc::{AllocError, Global};
 use std::marker::Model;
-
-/// The field of an instruction that holds a label.
-#[derive(Debug, Clone, Copy, PartialEq, Eq)]
-pub enum Field {
-    /// The displacement of a memory operand.
-    Disp,
-    /// The immediate number.
-    Imm,
-    /// Where a jump or call goes.
-    Target,
-}
 
 /// A name plus a number, in a field of an instruction.
 #[derive(Debug, Drop)]

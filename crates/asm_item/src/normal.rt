@@ -5,9 +5,9 @@ ghost use Rattle.std.specs.List.{list_all};
 ghost use Rattle.asm_item.specs.Normal as spec;
 
 use crate::args::Size;
-use crate::model::{DefGroup, Field, Item, Items, Label, Val, Word};
+use crate::model::{DefGroup, Item, Items, Label, Val, Word};
 use crate::rows::{distance, source_size};
-use isa386::{Callee, Dest, Dw, Ins, Narrow, Opnd, StackOp, Target, Way};
+use isa386::{Callee, Dest, Dw, Field, Ins, Narrow, Opnd, StackOp, Target, Way};
 use num_le::Name;
 
 fn is_digit(c: u8) -> bool

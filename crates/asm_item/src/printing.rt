@@ -1,7 +1,8 @@
 // The text of items.
-ghost use Rattle.std.specs.Prelude.{◌≡◌, ◌≤◌, ◌++◌, ◌∷◌, take, codes, IfOk, OnOk};
+ghost use Rattle.std.specs.Prelude.{◌≡◌, ◌≤◌, ◌++◌, ◌∷◌, take, codes, IfOk, IsTrue, OnOk};
 ghost use Rattle.asm_item.specs.Args.{shown};
 ghost use Rattle.asm_item.specs.Groups as groups;
+ghost use Rattle.asm_item.specs.Normal.{are_normal};
 ghost use Rattle.asm_item.specs.Printed as spec;
 ghost use Rattle.asm_item.specs.Rows.{row};
 ghost use Rattle.asm_item.specs.Statements.{bare, with_one, with_two, line_text, further_text};
@@ -235,9 +236,10 @@ fn put_item(out: &mut Vec<u8>, item: &Item) -> Result<(), AllocError>
     }
 }
 
-/// The text of items: one statement a line, with a tab before it, and a group on one line. Of items that
-/// are normal ([`crate::is_normal`]) it is a text that reading gives back as these items.
+/// The text of normal items ([`crate::is_normal`]): one statement a line, with a tab before it, and a group
+/// on one line. Reading that text gives these items back.
 pub fn print(alloc: Global, items: &Items) -> Result<Vec<u8>, AllocError>
+    requires normal { IsTrue (are_normal items.now) }
     ensures text { IfOk result (λ bytes. bytes.items ≡ spec.text_of items.now) }
 {
     let mut out = Vec::new(alloc);

@@ -7,12 +7,12 @@ ghost use Rattle.asm_item.specs.Rows as rows;
 ghost use Rattle.asm_item.specs.Statements.{statement_text};
 
 use crate::args::{Arg, Number, Operand, Size};
-use crate::model::{Field, Label};
+use crate::model::Label;
 use crate::put::{put_bare, put_one, put_two};
 use crate::words::Keyword;
 use isa386::{
-    Callee, Dest, DivideOp, Ins, Narrow, Opnd, PlainOp, StackOp, StringOp, Target, UnaryOp, Way,
-    WidenOp,
+    Callee, Dest, DivideOp, Field, Ins, Narrow, Opnd, PlainOp, StackOp, StringOp, Target, UnaryOp,
+    Way, WidenOp,
 };
 use std::alloc::AllocError;
 

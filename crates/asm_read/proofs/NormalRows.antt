@@ -26,7 +26,7 @@ use Rattle.isa386.specs.declared.ins.Ins.TheVariants.{Move, MoveImm, MoveNarrow,
 use Rattle.asm_item.specs.declared.args.Number.{Number}
 use Rattle.asm_item.specs.declared.args.Size.{Size}
 use Rattle.asm_item.specs.declared.args.Size.TheVariants as sizes
-use Rattle.asm_item.specs.declared.model.Field.TheVariants as fields
+use Rattle.isa386.specs.declared.field.Field.TheVariants as fields
 use Rattle.asm_item.specs.declared.model.Label.{Label}
 use Rattle.asm_item.specs.declared.model.Item.TheVariants as items
 use Rattle.asm_item.specs.declared.words.Keyword.{Keyword}

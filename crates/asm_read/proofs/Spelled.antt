@@ -20,8 +20,8 @@ use Rattle.isa386.specs.declared.ins.Ins.{Ins}
 use Rattle.isa386.specs.declared.ins.Ins.TheVariants.{Move, MoveImm, MoveNarrow, Lea, Stack, ArithTo, ArithFrom, ArithImm, Test, Imul, Unary, Divide, Cltd, Shift, Set, Widen, Call, Jump, Branch, Plain, Int3, Str, Lcall}
 use Rattle.asm_item.specs.declared.args.Size.{Size}
 use Rattle.asm_item.specs.declared.args.Size.TheVariants as sizes
-use Rattle.asm_item.specs.declared.model.Field.{Field}
-use Rattle.asm_item.specs.declared.model.Field.TheVariants as fields
+use Rattle.isa386.specs.declared.field.Field.{Field}
+use Rattle.isa386.specs.declared.field.Field.TheVariants as fields
 use Rattle.asm_item.specs.declared.model.Label.{Label}
 use Rattle.asm_item.specs.Args.{signed, registers}
 use Rattle.asm_item.specs.Rows as rows

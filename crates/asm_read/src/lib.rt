@@ -92,6 +92,3 @@ pub fn read(alloc: Global, text: &[u8]) -> Result<Items, AsmErr>
 {
     read_stmts(alloc, text)
 }
-
-#[cfg(test)]
-mod tests;

@@ -7,10 +7,10 @@ ghost use Rattle.asm_read.specs.Table as spec;
 ghost use Rattle.asm_read.specs.Coded as views;
 
 use crate::numerals::{full_of, signed_of};
-use asm_item::{Arg, Field, Keyword, Number, Operand, Size};
+use asm_item::{Arg, Keyword, Number, Operand, Size};
 use isa386::{
-    ArithOp, Callee, Dest, DivideOp, Dw, Ins, Narrow, Opnd, PlainOp, StackOp, StringOp, Target,
-    UnaryOp, Way, WidenOp,
+    ArithOp, Callee, Dest, DivideOp, Dw, Field, Ins, Narrow, Opnd, PlainOp, StackOp, StringOp,
+    Target, UnaryOp, Way, WidenOp,
 };
 
 /// A name plus a number, in a field of an instruction.

@@ -15,6 +15,3 @@ pub use arith::convert;
 pub use number::{constant, is_zero};
 pub use spot::Spot;
 pub use typing::{ExprType, size, type_of};
-
-#[cfg(test)]
-mod tests;

@@ -66,6 +66,3 @@ pub fn a_local_is_read()
 {
     // The law is all that is promised.
 }
-
-#[cfg(test)]
-mod tests;

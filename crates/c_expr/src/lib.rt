@@ -58,6 +58,3 @@ pub fn brackets_are_few()
 {
     // The law is all that is promised.
 }
-
-#[cfg(test)]
-mod tests;

@@ -40,6 +40,3 @@ pub struct Token {
 pub struct Tokens {
     pub list: Vec<Token>,
 }
-
-#[cfg(test)]
-mod tests;

@@ -44,6 +44,3 @@ pub fn what_is_read_is_spelled()
 {
     // The law is all that is promised.
 }
-
-#[cfg(test)]
-mod tests;

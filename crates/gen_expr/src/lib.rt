@@ -17,6 +17,3 @@ pub use laws::{
 };
 pub use operands::{below, load, store};
 pub use small::small_text;
-
-#[cfg(test)]
-mod tests;

@@ -14,6 +14,3 @@ mod strings;
 mod transfer;
 
 pub use processor::{Cpu, Event, step};
-
-#[cfg(test)]
-mod tests;
