@@ -1,0 +1,9 @@
+pub mod Ghost
+pub mod Spelled
+pub mod Items
+pub mod Coder
+pub mod Site
+pub mod Operators
+pub mod Exprs
+pub mod Stmts
+pub mod Startup
