@@ -1,5 +1,5 @@
 -- Code by the place where it comes to stand: a place inside an expression is named by the number of items before the jump to it.
-use Rattle.std.specs.Prelude.{ℕ, ◌+◌, List, [], ◌∷◌, ◌++◌}
+use Rattle.std.specs.Prelude.{ℕ, ◌+◌, List, [], ◌++◌}
 use Rattle.gen_base.specs.Items.{CodeItem, extents}
 
 -- code, given how many items of the file's text stand before it

@@ -19,11 +19,11 @@ use Rattle.c_tree.specs.declared.TStep.TheVariants.{PreInc, PreDec, PostInc, Pos
 use Rattle.c_tree.specs.TExpr.{Ref, Local, Param, Static, Ext, Func, Outer, Const, TExpr, TArgs, name, int, text, unary, deref, address, step, size_of, size_of_type, cast, convert, decay, designate, binary, both, either, comma, choice, assign, update, index, call, member, arrow, no_args, more_args, type_of}
 use Rattle.c_run.specs.Values.{Num, converted}
 use Rattle.c_run.specs.Context.{Context, offset, own, outer}
-use Rattle.c_run.specs.Exprs.{element, step_op, is_function, is_structure}
+use Rattle.c_run.specs.Exprs.{element, is_function, is_structure}
 use Rattle.gen_base.specs.Items.{CodeName, Inside, CodeItem, Op, Label, Goto, If, CallTo}
 use Rattle.gen_base.specs.Coder.{Coder, just, in_turn, in_turn3, in_turn4, nothing}
 use Rattle.gen_base.specs.Site.{Site, inside, eax, ecx, ebx, esp, esi, edi, at_reg, temp, own_name, outer_name, number_code, plain_number, on_name, place_of_name, place_of_text}
-use Rattle.gen_base.specs.Operators.{load_ins, load_code, store_ins, convert_code, truth_code, tested, unary_code, numbers_code, operator_code, plus_code, copy_code}
+use Rattle.gen_base.specs.Operators.{load_ins, load_code, store_ins, convert_code, truth_code, tested, unary_code, operator_code, plus_code, copy_code}
 
 -- eax is kept in temporary d; a temporary comes back into a register
 abbrev pub kept : Site → ℕ → CodeItem

@@ -7,3 +7,5 @@ pub mod Operators
 pub mod Exprs
 pub mod Stmts
 pub mod Startup
+pub mod Arrives
+pub mod Counts

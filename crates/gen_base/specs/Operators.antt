@@ -1,5 +1,5 @@
 -- The code of loads, stores, conversions and operators. A value is in eax, and a right operand in ecx.
-use Rattle.std.specs.Prelude.{ℕ, ◌&&◌, ◌||◌, nat_eq, nat_le, List, [], ◌∷◌, ◌++◌, Bool, true, false}
+use Rattle.std.specs.Prelude.{ℕ, ◌||◌, nat_eq, nat_le, List, [], ◌∷◌, ◌++◌, Bool, true, false}
 use Rattle.c_type.specs.Names.{pick}
 use Rattle.c_type.specs.declared.Kind.{Kind}
 use Rattle.c_type.specs.declared.Kind.TheVariants.{Char, UChar, Short, UShort, Int, UInt, Long, ULong}
@@ -27,7 +27,7 @@ use Rattle.c_tree.specs.declared.TBinary.TheVariants.{Mul, Div, Rem, Add, Sub, S
 use Rattle.c_run.specs.Context.{Context}
 use Rattle.c_run.specs.Exprs.{element}
 use Rattle.gen_base.specs.Items.{CodeItem, Op}
-use Rattle.gen_base.specs.Site.{eax, ecx, edx, ebx, esi, edi, at_reg, number_code}
+use Rattle.gen_base.specs.Site.{eax, ecx, edx, at_reg, number_code}
 
 -- loads
 

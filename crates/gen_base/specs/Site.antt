@@ -1,5 +1,5 @@
 -- Where code stands: its function, and how it reaches the objects of an activation and of static life.
-use Rattle.std.specs.Prelude.{ℕ, suc, ◌+◌, ◌-◌, ◌*◌, List, [], ◌∷◌, ◌++◌, Option, Some, None, ℤ, pos, take}
+use Rattle.std.specs.Prelude.{ℕ, suc, ◌+◌, ◌-◌, ◌*◌, List, [], ◌∷◌, Option, Some, None, pos, take}
 use Rattle.std.specs.List.{flat_map}
 use Rattle.std.specs.Int.{w32, cast_signed}
 use Rattle.isa386.specs.declared.ins.Dw.TheVariants.{D32}

@@ -1,18 +1,16 @@
 -- The code that stands before all others: it calls main and exits with its value, and has the three functions of the library.
 -- No start stands in it.
-use Rattle.std.specs.Prelude.{ℕ, ◌+◌, List, [], ◌∷◌, ◌++◌}
-use Rattle.isa386.specs.declared.ins.Opnd.{Opnd}
+use Rattle.std.specs.Prelude.{ℕ, List, [], ◌∷◌, ◌++◌}
 use Rattle.isa386.specs.declared.ins.Opnd.TheVariants.{Reg}
 use Rattle.isa386.specs.declared.ins.Way.TheVariants.{ToOperand, ToRegister}
-use Rattle.isa386.specs.declared.ins.Dest.TheVariants.{Register}
 use Rattle.isa386.specs.declared.ins.StackOp.TheVariants.{Push, PushImm}
 use Rattle.isa386.specs.declared.ins.ArithOp.TheVariants as arith
 use Rattle.isa386.specs.declared.ins.WidenOp.TheVariants.{ZeroByte}
 use Rattle.isa386.specs.declared.ins.PlainOp.TheVariants.{Ret, Leave}
 use Rattle.isa386.specs.declared.ins.Cond.TheVariants.{Equal}
-use Rattle.isa386.specs.declared.ins.Ins.TheVariants.{Move, MoveImm, Lea, Stack, ArithImm, Test, Widen, Plain, Lcall}
+use Rattle.isa386.specs.declared.ins.Ins.TheVariants.{Move, Lea, Stack, ArithImm, Test, Widen, Plain, Lcall}
 use Rattle.c_run.specs.Values.{Target, Body, Putchar, Getchar, Exit}
-use Rattle.gen_base.specs.Items.{CodeName, Entry, Inside, CodeItem, Op, Label, If, CallTo}
+use Rattle.gen_base.specs.Items.{CodeName, Entry, CodeItem, Op, Label, If, CallTo}
 use Rattle.gen_base.specs.Site.{eax, esp, ebp, beyond_base, below_base, number_code}
 
 -- the system call of that number

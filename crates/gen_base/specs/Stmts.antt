@@ -1,6 +1,5 @@
 -- The code of statements and of functions. Starts stand in textual order.
-use Rattle.std.specs.Prelude.{ℕ, zero, suc, ◌+◌, ◌-◌, List, [], ◌∷◌, ◌++◌, length, Option, Some, None}
-use Rattle.c_type.specs.Types.{CType}
+use Rattle.std.specs.Prelude.{ℕ, zero, suc, ◌+◌, List, [], ◌∷◌, ◌++◌, Option, Some, None}
 use Rattle.isa386.specs.declared.ins.Opnd.TheVariants.{Reg}
 use Rattle.isa386.specs.declared.ins.Way.TheVariants.{ToOperand}
 use Rattle.isa386.specs.declared.ins.Dest.TheVariants.{Register}
