@@ -1,0 +1,4 @@
+pub mod Slices
+pub mod Checks
+pub mod Entries
+pub mod Coff
