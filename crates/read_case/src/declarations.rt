@@ -312,17 +312,23 @@ fn is_pointer(declr: &Declr, line: u32) -> bool {
     }
 }
 
-/// Whether an array `x` of pointers is declared, with its star on line 3.
-fn declares_pointers(alloc: Global, defs: &mut Typedefs) -> bool {
-    let head = read(alloc, b"static\nsize\n*x[2];", defs);
-    let Ok(head) = &head else {
-        return false;
-    };
+/// Whether a declarator makes `x` an array of pointers, with its star on line 3.
+fn is_array_of_pointers(declr: &Declr) -> bool {
+    is_pointer(declr, 3) && declared_name(declr).is(b"x") && !declares_function(declr)
+}
+
+fn begins_with_pointers(head: &Head) -> bool {
     match first_declr(head) {
-        Some(declr) => {
-            is_pointer(declr, 3) && declared_name(declr).is(b"x") && !declares_function(declr)
-        }
+        Some(declr) => is_array_of_pointers(declr),
         None => false,
+    }
+}
+
+/// Whether an array `x` of pointers is declared.
+fn declares_pointers(alloc: Global, defs: &mut Typedefs) -> bool {
+    match read(alloc, b"static\nsize\n*x[2];", defs) {
+        Ok(head) => begins_with_pointers(&head),
+        Err(_) => false,
     }
 }
 
