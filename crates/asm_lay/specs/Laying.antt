@@ -63,11 +63,11 @@ defined_by c b x = None
 abbrev pub defined : Laid → Option (List ℕ × Location)
 defined x = defined_by x.counters x.bss x.item
 
-abbrev pub place_of : List Laid → List ℕ → Option Location
-place_of xs k = option_map (λ d. d.1) (find (λ d. bytes_eq d.0 k) (filter_map defined xs))
+abbrev pub label_place : List Laid → List ℕ → Option Location
+label_place xs k = option_map (λ d. d.1) (find (λ d. bytes_eq d.0 k) (filter_map defined xs))
 
-abbrev pub names_of : List Laid → Names
-names_of xs = record { place = place_of xs; external = λ k. list_any (λ x. makes_external k x.item) xs }
+abbrev pub text_names : List Laid → Names
+text_names xs = record { place = label_place xs; external = λ k. list_any (λ x. makes_external k x.item) xs }
 
 -- ---- pieces
 
@@ -78,7 +78,7 @@ ArePieces n (x ∷ xs) = IsPiece n x.counters x.item x.piece × ArePieces n xs
 
 -- pieces of these statements, as many as the statements
 abbrev pub AreLaid : List Item → List Piece → Type 0
-AreLaid xs ps = (length ps ≡ length xs) × ArePieces (names_of (laid xs ps)) (laid xs ps)
+AreLaid xs ps = (length ps ≡ length xs) × ArePieces (text_names (laid xs ps)) (laid xs ps)
 
 -- each piece has the length that it has where all jumps are long
 abbrev pub AreLong : List Laid → Type 0

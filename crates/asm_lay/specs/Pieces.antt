@@ -93,9 +93,9 @@ left n a i l = record {
 abbrev pub Left : Names → ℕ → Ins → Label → Piece → Type 0
 Left n a i l p = p ≡ left n a i l
 
-abbrev pub IsNamed : Names → ℕ → Ins → Label → Option ℕ → Piece → Type 0
-IsNamed n a i l (Some o) p = Resolved a i l o p
-IsNamed n a i l None p = Left n a i l p
+abbrev pub IsLabelPiece : Names → ℕ → Ins → Label → Option ℕ → Piece → Type 0
+IsLabelPiece n a i l (Some o) p = Resolved a i l o p
+IsLabelPiece n a i l None p = Left n a i l p
 
 -- ---- statements
 
@@ -113,7 +113,7 @@ datum_piece n a (datum.Label k add) = record {
 -- what a statement lays at the counters c
 abbrev pub IsPiece : Names → Counters → Item → Piece → Type 0
 IsPiece n c (items.Code i None) p = p ≡ fixed (encoding i)
-IsPiece n c (items.Code i (Some l)) p = IsNamed n (counter c) i l (near n c.section l) p
+IsPiece n c (items.Code i (Some l)) p = IsLabelPiece n (counter c) i l (near n c.section l) p
 IsPiece n c (items.Label k) p = p ≡ fixed []
 IsPiece n c (items.Byte v) p = p ≡ fixed (v ∷ [])
 IsPiece n c (items.Value v) p = p ≡ fixed (little_bytes 2 v)

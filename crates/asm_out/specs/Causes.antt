@@ -10,7 +10,7 @@ use Rattle.asm_item.specs.declared.model.Item.{Item}
 use Rattle.asm_item.specs.declared.model.Item.TheVariants as items
 use Rattle.asm_lay.specs.Names.{makes_external}
 use Rattle.asm_lay.specs.Pieces.{is_left}
-use Rattle.asm_lay.specs.Laying.{Laid, laid, names_of, bss_len, long_end}
+use Rattle.asm_lay.specs.Laying.{Laid, laid, text_names, bss_len, long_end}
 use Rattle.coff_rec.specs.Nesting.{Nested, Around, around, tag_end, body_end, block_end}
 use Rattle.coff_rec.specs.AuxKinds.{is_tag, is_variable}
 use Rattle.coff_rec.specs.declared.codes.TheConstants.{C_BLOCK, C_EOS, C_FCN, C_FILE}
@@ -62,22 +62,22 @@ pub record Group : Type 0 where
   pub group : DefGroup
   pub kind : Kind
 
-abbrev pub group_by : List Laid → Laid → Item → List Group
-group_by xs x (items.Def g) = record { group = g; kind = group_kind xs x g } ∷ []
-group_by xs x i = []
+abbrev pub group_at : List Laid → Laid → Item → List Group
+group_at xs x (items.Def g) = record { group = g; kind = group_kind xs x g } ∷ []
+group_at xs x i = []
 
 abbrev pub groups_in : List Laid → List Laid → List Group
 groups_in xs [] = []
-groups_in xs (y ∷ ys) = group_by xs y y.item ++ groups_in xs ys
+groups_in xs (y ∷ ys) = group_at xs y y.item ++ groups_in xs ys
 
 -- the groups of a text
 abbrev pub groups_of : List Item → List Group
 groups_of xs = groups_in (bare xs) (bare xs)
 
 -- the groups that nest; the marks are passed over
-abbrev pub nested : List Group → List Nested
-nested [] = []
-nested (g ∷ gs) = if is_mark g.group then nested gs else record { index = 0; next = 0; kind = g.kind } ∷ nested gs
+abbrev pub nested_groups : List Group → List Nested
+nested_groups [] = []
+nested_groups (g ∷ gs) = if is_mark g.group then nested_groups gs else record { index = 0; next = 0; kind = g.kind } ∷ nested_groups gs
 
 -- a class of syms(4), or that of a mark
 abbrev pub is_class : DefGroup → Bool
@@ -121,9 +121,9 @@ abbrev pub is_bad : List Group → List Group → Group → List Group → Bool
 is_bad all before g behind =
     not (is_class g.group)
     || is_section_name g.group.name
-    || is_loose_tag g.kind (around (nested before)) (nested behind)
-    || is_loose_begin g.kind (around (nested before))
-    || is_unpaired g.kind (around (nested before)) (nested behind)
+    || is_loose_tag g.kind (around (nested_groups before)) (nested_groups behind)
+    || is_loose_begin g.kind (around (nested_groups before))
+    || is_unpaired g.kind (around (nested_groups before)) (nested_groups behind)
     || lacks_tag all g.group
 
 -- the n-th group is bad by itself or by its place
@@ -160,7 +160,7 @@ IsLarge xs parts.Text = MOST_TEXT < (long_end xs).text
 IsLarge xs parts.Init = MOST_INIT < (long_end xs).init + bss_len xs
 
 abbrev pub left_count : List Item → ℕ → ℕ
-left_count xs s = count_by (λ x. nat_eq x.counters.section s && is_left (names_of (bare xs)) s x.item) (bare xs)
+left_count xs s = count_by (λ x. nat_eq x.counters.section s && is_left (text_names (bare xs)) s x.item) (bare xs)
 
 abbrev pub is_line : Item → Bool
 is_line (items.Ln n) = true

@@ -8,7 +8,7 @@ use Rattle.asm_item.specs.declared.model.Item.{Item}
 use Rattle.asm_item.specs.declared.model.Item.TheVariants as items
 use Rattle.asm_item.specs.Stand.{counter}
 use Rattle.asm_lay.specs.Names.{Location}
-use Rattle.asm_lay.specs.Laying.{Laid, place_of, section_content, round4}
+use Rattle.asm_lay.specs.Laying.{Laid, label_place, section_content, round4}
 use Rattle.coff_rec.specs.AuxKinds.{is_tag}
 use Rattle.coff_rec.specs.Nesting.{is_member, kind_of}
 use Rattle.coff_rec.specs.declared.codes.TheConstants.{C_ARG, C_AUTO, C_EOS, C_FIELD, C_FILE, C_REG, C_TPDEF}
@@ -42,25 +42,25 @@ value_by None rest = rest
 value_by (Some l) rest = place l
 
 -- the value of a name in a text
-abbrev pub value_of : List Laid → List ℕ → Value
-value_of xs k = value_by (place_of xs k) (value_without xs k)
+abbrev pub name_value : List Laid → List ℕ → Value
+name_value xs k = value_by (label_place xs k) (value_without xs k)
 
 -- the present place
-abbrev pub here : Laid → Location
-here x = record { section = x.counters.section; offset = counter x.counters }
+abbrev pub present_place : Laid → Location
+present_place x = record { section = x.counters.section; offset = counter x.counters }
 
 -- the value of the group at x
 abbrev pub group_value : List Laid → Laid → Val → Value
 group_value xs x (values.Number n) = number n
-group_value xs x (values.Label k) = value_of xs k
-group_value xs x values.Here = place (here x)
+group_value xs x (values.Label k) = name_value xs k
+group_value xs x values.Here = place (present_place x)
 
 -- the section of a value; N_ABS is -1, N_UNDEF 0
-abbrev pub section_of : Value → ℤ
-section_of (number n) = negsuc 0
-section_of (place l) = pos l.section
-section_of (common n) = pos 0
-section_of elsewhere = pos 0
+abbrev pub value_section : Value → ℤ
+value_section (number n) = negsuc 0
+value_section (place l) = pos l.section
+value_section (common n) = pos 0
+value_section elsewhere = pos 0
 
 -- ---- addresses: .text at 0, .data at the next multiple of 4, .bss at the next behind it
 
@@ -113,7 +113,7 @@ is_absolute class =
 
 -- N_DEBUG is -2
 abbrev pub section_for : ℕ → Value → ℤ
-section_for class v = if is_debug class then negsuc 1 else (if is_absolute class then negsuc 0 else section_of v)
+section_for class v = if is_debug class then negsuc 1 else (if is_absolute class then negsuc 0 else value_section v)
 
 abbrev pub group_section : List Laid → Laid → DefGroup → ℤ
 group_section xs x g = section_for (class_of g) (group_value xs x g.val)

@@ -15,7 +15,7 @@ use Rattle.coff_rec.specs.declared.records.LineRec.{LineRec}
 use Rattle.coff_rec.specs.declared.records.SymRec.{SymRec}
 use Rattle.coff_rec.specs.declared.parts.Parts.{Parts}
 use Rattle.asm_out.specs.Groups.{section_begin, function_size}
-use Rattle.asm_out.specs.Symbols.{Draft, Numbered, Contents, drafts, is_behind, is_function_draft, file_drafts, section_draft, externals, padded, entries_for, numbered_from, index_behind, end_index, tag_of, external_index}
+use Rattle.asm_out.specs.Symbols.{Draft, Numbered, Contents, drafts, is_behind, is_function_draft, file_drafts, section_draft, externals, padded, entries_for, numbered_from, index_behind, end_index, tag_index_of, external_index}
 use Rattle.asm_out.specs.declared.codes.TheConstants.{I386MAGIC, F_AR32WR, F_LNNO, STYP_TEXT, STYP_DATA, STYP_BSS}
 
 -- ---- the order of the symbols: the file, its groups, its sections, the externals
@@ -39,13 +39,13 @@ first_external xs = text_index xs + 6
 
 -- ---- line entries
 
-abbrev pub line_of : Laid → Item → List LineRec
-line_of x (items.Ln n) = record { l_addr = x.counters.text; l_lnno = n } ∷ []
-line_of x i = []
+abbrev pub line_at : Laid → Item → List LineRec
+line_at x (items.Ln n) = record { l_addr = x.counters.text; l_lnno = n } ∷ []
+line_at x i = []
 
 -- a function's entries: one with its index and 0, then one for each .ln
-abbrev pub lines_of : Numbered → List LineRec
-lines_of s = record { l_addr = s.index; l_lnno = 0 } ∷ flat_map (λ x. line_of x x.item) s.draft.own
+abbrev pub function_lines : Numbered → List LineRec
+function_lines s = record { l_addr = s.index; l_lnno = 0 } ∷ flat_map (λ x. line_at x x.item) s.draft.own
 
 abbrev pub inserted : Numbered → List Numbered → List Numbered
 inserted s [] = s ∷ []
@@ -56,13 +56,13 @@ abbrev pub by_address : List Numbered → List Numbered
 by_address [] = []
 by_address (s ∷ ss) = inserted s (by_address ss)
 
-abbrev pub functions : List Numbered → List Numbered
-functions [] = []
-functions (s ∷ ss) = if is_function_draft s.draft then s ∷ functions ss else functions ss
+abbrev pub function_symbols : List Numbered → List Numbered
+function_symbols [] = []
+function_symbols (s ∷ ss) = if is_function_draft s.draft then s ∷ function_symbols ss else function_symbols ss
 
 -- the line entries of all functions, in order of address
 abbrev pub line_entries : List Numbered → List LineRec
-line_entries ss = flat_map lines_of (by_address (functions ss))
+line_entries ss = flat_map function_lines (by_address (function_symbols ss))
 
 -- ---- the symbols with their indexes
 
@@ -152,7 +152,7 @@ of_function xs s x =
 abbrev pub entry_of : List Laid → List Numbered → Numbered → List Numbered → AuxRec
 entry_of xs all s behind =
     aux_of (kind_for s.draft.class s.draft.type)
-    (of_function xs s (record s.draft.fields { x_tagndx = tag_of all s.draft.tag; x_endndx = end_index s behind }))
+    (of_function xs s (record s.draft.fields { x_tagndx = tag_index_of all s.draft.tag; x_endndx = end_index s behind }))
 
 abbrev pub entries_from : List Laid → List Numbered → List Numbered → List AuxRec
 entries_from xs all [] = []

@@ -19,7 +19,7 @@ use Rattle.coff_rec.specs.declared.entry.AuxKind.TheVariants as kinds
 use Rattle.coff_rec.specs.declared.entry.AuxRec.{AuxRec}
 use Rattle.coff_rec.specs.declared.nesting.Kind.{Kind}
 use Rattle.coff_rec.specs.declared.nesting.Kind.TheVariants.{BlockBegin, Function}
-use Rattle.asm_out.specs.Groups.{class_of, is_mark, group_value, group_section, value_of, value_number, section_of, section_begin, up_to_function, is_function_kind}
+use Rattle.asm_out.specs.Groups.{class_of, is_mark, group_value, group_section, name_value, value_number, value_section, section_begin, up_to_function, is_function_kind}
 
 -- A symbol that has no index yet. In `fields` stands what doesn't depend on other symbols, and `own` are the statements from a
 -- function's group up to the next function's.
@@ -135,7 +135,7 @@ is_external_of k d = nat_eq d.class C_EXT && bytes_eq d.name k
 
 -- an external without a group has the value that its definition gives, and no type
 abbrev pub bare_draft : List Laid → List ℕ → Draft
-bare_draft xs k = plain_draft k (value_number xs (value_of xs k)) (section_of (value_of xs k)) C_EXT blank
+bare_draft xs k = plain_draft k (value_number xs (name_value xs k)) (value_section (name_value xs k)) C_EXT blank
 
 abbrev pub lone_drafts : List Laid → List ℕ → List Draft
 lone_drafts xs k =
@@ -195,6 +195,6 @@ end_by a k next behind = None
 abbrev pub end_index : Numbered → List Numbered → ℕ
 end_index s behind = unwrap_or (end_by (kind_for s.draft.class s.draft.type) (draft_kind s.draft) s.next (map nested_symbol behind)) 0
 
-abbrev pub tag_of : List Numbered → Option (List ℕ) → ℕ
-tag_of ss None = 0
-tag_of ss (Some k) = tag_index ss k
+abbrev pub tag_index_of : List Numbered → Option (List ℕ) → ℕ
+tag_index_of ss None = 0
+tag_index_of ss (Some k) = tag_index ss k
