@@ -1,8 +1,11 @@
 -- The small texts lay what the rows say.
-use Rattle.std.specs.Prelude.{ℕ, pos, negsuc, List, [], ◌∷◌, Some, refl}
+use Rattle.std.specs.Prelude.{ℕ, zero, suc, pos, negsuc, List, [], ◌∷◌, Some, refl}
 use Rattle.std.proofs.Common.{arith, inl, inr}
 use Rattle.isa386.specs.declared.ins.Target.TheVariants.{Near, Short}
-use Rattle.isa386.specs.declared.ins.Ins.TheVariants.{Jump}
+use Rattle.isa386.specs.declared.ins.PlainOp.TheVariants.{Nop}
+use Rattle.isa386.specs.declared.ins.Ins.TheVariants.{Jump, Plain}
+use Rattle.asm_item.specs.Stand.{AreTold}
+use Rattle.asm_lay.specs.Rows.{counted, loaded}
 use Rattle.asm_lay.specs.Pieces.{Aim, own, section, Piece, fixed}
 use Rattle.asm_lay.specs.Rows as rows
 use Rattle.asm_lay.specs.Rows.{Lays, TextsAreLaid}
@@ -16,6 +19,21 @@ a_nop = fixed (0x90 ∷ [])
 
 abbrev at : List ℕ → ℕ → ℕ → Aim → Piece
 at bytes o type to = record { bytes = bytes; relocation = Some (record { at = o; type = type; to = to }) }
+
+abbrev bytes : List ℕ
+bytes = 0x90 ∷ 0xE9 ∷ 0xFA ∷ 0xFF ∷ 0xFF ∷ 0xFF ∷ []
+
+first_told : AreTold (loaded bytes) 0x10000 (0x90 ∷ [])
+first_told zero h = refl
+first_told (suc k) h = absurd (omega (h, arith))
+
+jump_told : AreTold (loaded bytes) 0x10001 (0xE9 ∷ 0xFA ∷ 0xFF ∷ 0xFF ∷ 0xFF ∷ [])
+jump_told zero h = refl
+jump_told (suc zero) h = refl
+jump_told (suc (suc zero)) h = refl
+jump_told (suc (suc (suc zero))) h = refl
+jump_told (suc (suc (suc (suc zero)))) h = refl
+jump_told (suc (suc (suc (suc (suc k))))) h = absurd (omega (h, arith))
 
 pub all_lay : TextsAreLaid
 all_lay = record {
@@ -96,4 +114,23 @@ all_lay = record {
     text_left_is = refl;
     init_left_is = refl;
   };
+  stands = (
+    counted 0x10000,
+    (refl, refl),
+    0x10000 ∷ [],
+    refl,
+    (
+      counted 0x10000,
+      refl,
+      [],
+      refl,
+      (
+        counted 0x10001,
+        (Plain Nop, refl, (first_told, refl)),
+        [],
+        refl,
+        (counted 0x10006, (Jump (Near (negsuc 5)), (0xFFFFFFFA, omega arith, inl refl, refl), (jump_told, refl)), [], refl, (refl, refl)),
+      ),
+    ),
+  );
 }

@@ -1,5 +1,5 @@
 -- Small texts and what they lay, by hand.
-use Rattle.std.specs.Prelude.{◌≡◌, ℕ, ℤ, pos, negsuc, List, [], ◌∷◌, codes, Option, Some, None}
+use Rattle.std.specs.Prelude.{◌≡◌, ◌-◌, slice_get, ℕ, ℤ, pos, negsuc, List, [], ◌∷◌, codes, Option, Some, None}
 use Rattle.isa386.specs.declared.field.Field.{Field}
 use Rattle.isa386.specs.declared.field.Field.TheVariants.{Disp, Imm, Target as Distance}
 use Rattle.isa386.specs.declared.ins.Dw.TheVariants.{D32}
@@ -12,7 +12,8 @@ use Rattle.isa386.specs.declared.ins.Ins.TheVariants.{Move, MoveImm, Jump, Plain
 use Rattle.asm_item.specs.declared.model.Label.{Label as Use}
 use Rattle.asm_item.specs.declared.model.Word.TheVariants as datum
 use Rattle.asm_item.specs.declared.model.Item.{Item}
-use Rattle.asm_item.specs.declared.model.Item.TheVariants.{Code, Label, Byte, Long, Zero, Align, Section, Globl, Lcomm}
+use Rattle.asm_item.specs.declared.model.Item.TheVariants.{Code, Label, Byte, Long, Zero, Align, Section, Globl, Lcomm, Ln}
+use Rattle.asm_item.specs.Stand.{Stand, Counters}
 use Rattle.asm_lay.specs.Pieces.{own, section, Relocation, Piece}
 use Rattle.asm_lay.specs.Laying.{laid, AreLaid, section_content, section_relocations}
 use Rattle.asm_lay.specs.declared.codes.TheConstants.{R_DIR32, R_PCRLONG}
@@ -59,6 +60,13 @@ jump_on_data = record { at = 1; type = R_PCRLONG; to = section 2 } ∷ []
 abbrev use_of_data : ℕ → Relocation
 use_of_data a = record { at = a; type = R_DIR32; to = section 2 }
 
+-- memory that holds these bytes from 0x10000 on
+abbrev pub loaded : List ℕ → ℕ → Option ℕ
+loaded bytes a = slice_get bytes (a - 0x10000)
+
+abbrev pub counted : ℕ → Counters
+counted a = record { section = 1; text = a; init = 0x400000 }
+
 pub record TextsAreLaid : Type 0 where
   -- l: nop; jmp l
   pub back : Lays (Label l ∷ nop ∷ jmp l ∷ []) (0x90 ∷ 0xE9 ∷ 0xFA ∷ 0xFF ∷ 0xFF ∷ 0xFF ∷ []) [] [] []
@@ -84,3 +92,7 @@ pub record TextsAreLaid : Type 0 where
   -- .lcomm l, 1; .lcomm x, 4; movl $x, %eax
   pub in_bss :
       Lays (Lcomm l 1 ∷ Lcomm x 4 ∷ to_eax x ∷ []) (0xB8 ∷ 4 ∷ 0 ∷ 0 ∷ 0 ∷ []) [] (record { at = 1; type = R_DIR32; to = section 3 } ∷ []) []
+  -- l: .ln 1; nop; jmp l, in memory
+  pub stands :
+      Stand (loaded (0x90 ∷ 0xE9 ∷ 0xFA ∷ 0xFF ∷ 0xFF ∷ 0xFF ∷ [])) (λ k. 0x10000) (counted 0x10000) (Label l ∷ Ln 1 ∷ nop ∷ jmp l ∷ [])
+      (0x10000 ∷ []) (counted 0x10006)
