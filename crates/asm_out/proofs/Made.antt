@@ -4,7 +4,7 @@ use Rattle.asm_lay.specs.Pieces.{Piece, own, fixed}
 use Rattle.asm_lay.specs.Laying.{laid}
 use Rattle.coff_rec.specs.Records.{head_bytes, section_bytes, reloc_bytes, line_bytes, symbol_bytes, aux_bytes}
 use Rattle.asm_out.specs.Object.{object_of}
-use Rattle.asm_out.specs.Rows.{ObjectsAreMade, statements, w}
+use Rattle.asm_out.specs.Rows.{ObjectsAreMade, ExternalsAreMade, externals_used, a, statements, w}
 
 abbrev nothing : Piece
 nothing = fixed []
@@ -38,4 +38,19 @@ all_made = record {
   head = refl;
   pointers = refl;
   len = refl;
+}
+
+abbrev external_pieces : List Piece
+external_pieces =
+    nothing ∷ nothing ∷ record { bytes = 0x8B ∷ 5 ∷ 12 ∷ 0 ∷ 0 ∷ 0 ∷ []; relocation = Some (record { at = 2; type = 6; to = own a }) } ∷ []
+
+pub externals_made : ExternalsAreMade
+externals_made = record {
+  made = object_of (laid externals_used external_pieces);
+  object = (external_pieces, (refl, (refl, (refl, (refl, tt)))), refl);
+  text = refl;
+  relocations = refl;
+  symbols = refl;
+  strings = refl;
+  flags = refl;
 }

@@ -34,7 +34,7 @@ main = codes "main"
 abbrev pub w : List ℕ
 w = codes "w"
 
-abbrev a : List ℕ
+abbrev pub a : List ℕ
 a = codes "a"
 
 abbrev nop : Item
@@ -73,6 +73,27 @@ on_w address = record { r_vaddr = address; r_symndx = 14; r_type = 6 }
 
 abbrev contents : ℕ → ℕ → ℕ → AuxRec
 contents len relocations lines = record blank { x_scnlen = len; x_nreloc = relocations; x_nlinno = lines }
+
+-- a common with a name of 9 bytes, and a name of another file
+abbrev pub externals_used : List Item
+externals_used =
+    Comm (codes "abcdefghi") 8 ∷ Globl a
+    ∷ Code (Move ToRegister 0 (Mem None None (pos 0) D32)) (Some (record { field = Disp; name = a; add = pos 12 })) ∷ []
+
+abbrev long_name : List ℕ
+long_name = 0 ∷ 0 ∷ 0 ∷ 0 ∷ 4 ∷ 0 ∷ 0 ∷ 0 ∷ []
+
+-- the externals stand in the order of their first mention
+pub record ExternalsAreMade : Type 0 where
+  pub made : Parts
+  pub object : ObjectOf externals_used made
+  pub text : made.text ≡ 0x8B ∷ 5 ∷ 12 ∷ 0 ∷ 0 ∷ 0 ∷ []
+  pub relocations : made.text_relocs ≡ record { r_vaddr = 2; r_symndx = 7; r_type = 6 } ∷ []
+  pub symbols : made.syms
+      ≡ symbol (codes ".text") 0 (pos 1) 0 3 1 ∷ symbol (codes ".data") 8 (pos 2) 0 3 1 ∷ symbol (codes ".bss") 8 (pos 3) 0 3 1
+      ∷ symbol long_name 8 (pos 0) 0 2 0 ∷ symbol a 0 (pos 0) 0 2 0 ∷ []
+  pub strings : made.strings ≡ 14 ∷ 0 ∷ 0 ∷ 0 ∷ (codes "abcdefghi" ++ (0 ∷ []))
+  pub flags : made.head.f_flags ≡ 0x104
 
 abbrev uses_g : Item
 uses_g = group a (values.Label (codes "g")) (pos 3) 4 0
