@@ -1,10 +1,10 @@
 -- The small text makes its object.
-use Rattle.std.specs.Prelude.{ℕ, List, [], ◌∷◌, Some, refl}
+use Rattle.std.specs.Prelude.{replicate, ℕ, List, [], ◌∷◌, Some, refl}
 use Rattle.asm_lay.specs.Pieces.{Piece, own, fixed}
 use Rattle.asm_lay.specs.Laying.{laid}
 use Rattle.coff_rec.specs.Records.{head_bytes, section_bytes, reloc_bytes, line_bytes, symbol_bytes, aux_bytes}
 use Rattle.asm_out.specs.Object.{object_of}
-use Rattle.asm_out.specs.Rows.{ObjectsAreMade, ExternalsAreMade, externals_used, a, statements, w}
+use Rattle.asm_out.specs.Rows.{ObjectsAreMade, ExternalsAreMade, TagsAreMade, structure, externals_used, a, statements, w}
 
 abbrev nothing : Piece
 nothing = fixed []
@@ -53,4 +53,15 @@ externals_made = record {
   symbols = refl;
   strings = refl;
   flags = refl;
+}
+
+abbrev structure_pieces : List Piece
+structure_pieces = nothing ∷ nothing ∷ nothing ∷ nothing ∷ nothing ∷ nothing ∷ fixed (replicate 8 0) ∷ []
+
+pub tags_made : TagsAreMade
+tags_made = record {
+  made = object_of (laid structure structure_pieces);
+  object = (structure_pieces, (refl, (refl, (refl, (refl, (refl, (refl, (refl, (refl, tt)))))))), refl);
+  symbols = refl;
+  entries = refl;
 }

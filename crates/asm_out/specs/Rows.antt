@@ -1,5 +1,5 @@
 -- A small text with a function, its lines and a variable, and its object by hand.
-use Rattle.std.specs.Prelude.{◌≡◌, ℕ, ◌-◌, ℤ, pos, negsuc, List, [], ◌∷◌, ◌++◌, length, map, codes, Option, Some, None, replicate}
+use Rattle.std.specs.Prelude.{take, ◌≡◌, ℕ, ◌-◌, ℤ, pos, negsuc, List, [], ◌∷◌, ◌++◌, length, map, codes, Option, Some, None, replicate}
 use Rattle.isa386.specs.declared.field.Field.TheVariants.{Disp}
 use Rattle.isa386.specs.declared.ins.Dw.TheVariants.{D32}
 use Rattle.isa386.specs.declared.ins.Opnd.TheVariants.{Reg, Mem}
@@ -94,6 +94,26 @@ pub record ExternalsAreMade : Type 0 where
       ∷ symbol long_name 8 (pos 0) 0 2 0 ∷ symbol a 0 (pos 0) 0 2 0 ∷ []
   pub strings : made.strings ≡ 14 ∷ 0 ∷ 0 ∷ 0 ∷ (codes "abcdefghi" ++ (0 ∷ []))
   pub flags : made.head.f_flags ≡ 0x104
+
+abbrev of_tag : List ℕ → Val → ℤ → ℕ → Item
+of_tag name v scl ty = Def (record { name = name; val = v; scl = scl; ty = ty; tag = Some (codes "t"); line = 0; size = 8; dims = 0 ∷ 0 ∷ 0 ∷ 0 ∷ [] })
+
+-- a structure of 8 bytes and a static variable of it, without a .file
+abbrev pub structure : List Item
+structure =
+    Def (record { name = codes "t"; val = values.Number 0; scl = pos 10; ty = 8; tag = None; line = 0; size = 8; dims = 0 ∷ 0 ∷ 0 ∷ 0 ∷ [] })
+    ∷ group (codes "m") (values.Number 4) (pos 8) 4 0 ∷ of_tag (codes ".eos") (values.Number 8) (pos 102) 0
+    ∷ Section 2 ∷ of_tag a (values.Label a) (pos 3) 8 ∷ Label a ∷ Zero 8 ∷ []
+
+-- a tag at index 0 is a tag
+pub record TagsAreMade : Type 0 where
+  pub made : Parts
+  pub object : ObjectOf structure made
+  pub symbols : take 4 made.syms
+      ≡ symbol (codes "t") 0 (negsuc 1) 8 10 1 ∷ symbol (codes "m") 4 (negsuc 0) 4 8 0 ∷ symbol (codes ".eos") 8 (negsuc 0) 0 102 1
+      ∷ symbol a 0 (pos 2) 8 3 1 ∷ []
+  pub entries : take 3 made.auxs
+      ≡ record blank { x_size = 8; x_endndx = 5 } ∷ record blank { x_size = 8 } ∷ record blank { x_size = 8 } ∷ []
 
 abbrev uses_g : Item
 uses_g = group a (values.Label (codes "g")) (pos 3) 4 0

@@ -3,7 +3,7 @@
 //! A text has exactly the objects of *ObjectOf*, and none where one of the causes of refusal holds.
 #![tactic(auto)]
 
-ghost use Rattle.asm_out.specs.Rows.{ObjectsAreMade, ExternalsAreMade, CausesAreFound};
+ghost use Rattle.asm_out.specs.Rows.{ObjectsAreMade, ExternalsAreMade, TagsAreMade, CausesAreFound};
 
 mod codes;
 
@@ -11,10 +11,11 @@ pub use codes::{
     F_AR32WR, F_LNNO, I386MAGIC, MOST_INIT, MOST_RECORDS, MOST_TEXT, STYP_BSS, STYP_DATA, STYP_TEXT,
 };
 
-/// Two small texts make the objects that a.out(4), syms(4) and linenum(4) give them.
+/// Three small texts make the objects that a.out(4), syms(4) and linenum(4) give them.
 pub fn objects_are_made()
     ensures law { ObjectsAreMade }
     ensures externals { ExternalsAreMade }
+    ensures tags { TagsAreMade }
 {
     // The law is all that is promised.
 }
