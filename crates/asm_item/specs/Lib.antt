@@ -5,3 +5,4 @@ pub mod Rows
 pub mod Groups
 pub mod Printed
 pub mod Normal
+pub mod Stand

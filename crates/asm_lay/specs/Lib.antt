@@ -1,0 +1,4 @@
+pub mod Names
+pub mod Pieces
+pub mod Laying
+pub mod Rows
