@@ -1,6 +1,7 @@
 //! The object that an assembly text makes.
 //!
-//! A text has exactly the objects of *ObjectOf*, and none where one of the causes of refusal holds.
+//! *ObjectOf* says which parts are an object of the items, and the causes say why items have none. These are
+//! definitions, with small texts computed; no code makes an object yet.
 #![tactic(auto)]
 
 ghost use Rattle.asm_out.specs.Rows.{ObjectsAreMade, ExternalsAreMade, TagsAreMade, CausesAreFound};
