@@ -3,7 +3,7 @@ use Rattle.std.proofs.Common.{◌≡◌, ℕ, zero, suc, ◌+◌, ◌<◌, ◌�
 use Rattle.std.specs.Prelude.{nat_eq, nat_le, ◌&&◌, codes}
 use Rattle.std.specs.List.{list_all, slice_split, flat_map}
 use Rattle.std.specs.Option.{option_map}
-use Rattle.std.proofs.lemmas.Bool.{eqb-true}
+use Rattle.std.proofs.lemmas.Bool.{eqb-true, and_from}
 use Rattle.std.proofs.lemmas.Bool.Decides.{nat_tests}
 use Rattle.std.proofs.lemmas.List.{append-nil}
 use Rattle.asm_item.specs.declared.model.Val.{Val}
@@ -23,7 +23,7 @@ use Rattle.asm_read.specs.Numerals.{◌>>=◌}
 use Rattle.asm_read.specs.Stmts as s
 use Rattle.asm_read.specs.Stmts.{Stmt, item, begin, part, end, make, each_half, stmts_at, stmts_of, is_semicolon}
 use Rattle.asm_read.specs.Reading.{At, at_line, rank, empty_group, with_part, State, goes, steps}
-use Rattle.asm_read.proofs.Joined.{and_left, and_right, both}
+use Rattle.asm_read.proofs.Joined.{and_left, and_right}
 use Rattle.asm_read.proofs.Printed.{clean, AreArguments, statement_then, lex_statement}
 use Rattle.asm_read.proofs.Inverse.{below, full_unsigned, signed_again}
 use Rattle.asm_read.proofs.Spelled.{signed_size}
@@ -180,9 +180,9 @@ tag_fit (Some k) h = (h, tt)
 
 last_half : (d : ℕ) (ds : List ℕ) → is_half d ≡ true → list_all is_half ds ≡ true → list_all is_half (unless_last_zero d ds) ≡ true
 last_half zero [] g h = refl
-last_half (suc d) [] g h = both (is_half (suc d)) true g refl
+last_half (suc d) [] g h = and_from (is_half (suc d)) true g refl
 last_half zero (e ∷ ds) g h = h
-last_half (suc d) (e ∷ ds) g h = both (is_half (suc d)) (list_all is_half (e ∷ ds)) g h
+last_half (suc d) (e ∷ ds) g h = and_from (is_half (suc d)) (list_all is_half (e ∷ ds)) g h
 
 last_length : (d : ℕ) (ds : List ℕ) → length (unless_last_zero d ds) ≤ suc (length ds)
 last_length zero [] = omega arith

@@ -18,9 +18,10 @@ use Rattle.asm_item.specs.Args.{Op, register, number, name, plus, minus, base, A
 use Rattle.asm_item.specs.Statements.{Statement, further_text, arguments_text, statement_text}
 use Rattle.asm_item.specs.Normal.{is_digit, is_name_byte, is_name}
 use Rattle.asm_read.specs.Stmts.{keyword_named}
-use Rattle.asm_read.proofs.Joined.{and_left, and_right, both, all_weaker}
+use Rattle.asm_read.proofs.Joined.{and_left, and_right, all_weaker}
 use Rattle.asm_read.proofs.Words.{decimal_digits}
 use Rattle.asm_read.proofs.Printed.{is_inner, clean, IsOp, IsArgument, AreArguments}
+use Rattle.std.proofs.lemmas.Bool.{and_from}
 
 pub keyword_again : (w : Keyword) → keyword_named (keyword_text w) ≡ Some w
 unfolding keyword_named
@@ -112,7 +113,7 @@ keyword_again (keywords.Set conds.Greater) = refl
 -- ---- no newline
 
 joined : (a b : List ℕ) → clean a ≡ true → clean b ≡ true → clean (a ++ b) ≡ true
-joined a b g h = list_all-append is_inner a b ∙ both (clean a) (clean b) g h
+joined a b g h = list_all-append is_inner a b ∙ and_from (clean a) (clean b) g h
 
 name_inner : (c : ℕ) → is_name_byte c ≡ true → is_inner c ≡ true
 name_inner c h = grind (arith, nat_tests)
@@ -122,10 +123,10 @@ digit_inner c h = grind (arith, nat_tests)
 
 name_clean : (k : List ℕ) → is_name k ≡ true → clean k ≡ true
 name_clean [] h = refl
-name_clean (c ∷ []) h = both (is_inner c) true (name_inner c (and_left (is_name_byte c) (cond (is_digit c || nat_eq c 46) false true) h)) refl
+name_clean (c ∷ []) h = and_from (is_inner c) true (name_inner c (and_left (is_name_byte c) (cond (is_digit c || nat_eq c 46) false true) h)) refl
 name_clean (c ∷ (d ∷ k)) h =
     let front = and_left (is_name_byte c && cond (is_digit c) false true) (list_all is_name_byte (d ∷ k)) h in
-    both (is_inner c) (clean (d ∷ k)) (name_inner c (and_left (is_name_byte c) (cond (is_digit c) false true) front)) (all_weaker is_name_byte is_inner name_inner (d ∷ k) (and_right (is_name_byte c && cond (is_digit c) false true) (list_all is_name_byte (d ∷ k)) h))
+    and_from (is_inner c) (clean (d ∷ k)) (name_inner c (and_left (is_name_byte c) (cond (is_digit c) false true) front)) (all_weaker is_name_byte is_inner name_inner (d ∷ k) (and_right (is_name_byte c && cond (is_digit c) false true) (list_all is_name_byte (d ∷ k)) h))
 
 decimal_clean : (n : ℕ) → n < 2 ^ 64 → clean (decimal n) ≡ true
 decimal_clean n h = all_weaker is_digit is_inner digit_inner (decimal n) (decimal_digits n h)

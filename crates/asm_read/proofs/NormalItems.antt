@@ -12,9 +12,10 @@ use Rattle.asm_item.specs.Normal.{is_name, is_value, is_half, is_signed, is_tag,
 use Rattle.asm_read.specs.Lex.{lex}
 use Rattle.asm_read.specs.Stmts.{Stmt, item, begin, part, end, wrong, stmts_of}
 use Rattle.asm_read.specs.Reading.{At, at_line, from_line, lines_of, text_stmts, rank, empty_group, four, with_part, Open, State, start, is_file, with_item, item_step, part_step, step_outside, step_within, step_by, step, goes, steps, finish_by, finish, reading}
-use Rattle.asm_read.proofs.Joined.{and_left, and_right, both}
+use Rattle.asm_read.proofs.Joined.{and_left, and_right}
 use Rattle.asm_read.proofs.Holds.{Holds, if_so}
 use Rattle.asm_read.proofs.NormalStatements.{IsPart, IsStmt, AreStmts, line_are}
+use Rattle.std.proofs.lemmas.Bool.{and_from}
 
 -- ---- the statements of a text
 
@@ -49,22 +50,22 @@ pub record IsGroup (g : DefGroup) : Type 0 where
 
 group_is : (g : DefGroup) → IsGroup g → is_group g ≡ true
 group_is g h =
-    both _ (are_dimensions g.dims) (both _ (is_half g.size) (both _ (is_half g.line) (both _ (is_tag g.tag) (both _ (is_half g.ty) (both _ (is_signed g.scl)
-    (both (is_name g.name) (is_value g.val) h.name h.val) h.scl) h.ty) h.tag) h.line) h.size) h.dims
+    and_from _ (are_dimensions g.dims) (and_from _ (is_half g.size) (and_from _ (is_half g.line) (and_from _ (is_tag g.tag) (and_from _ (is_half g.ty) (and_from _ (is_signed g.scl)
+    (and_from (is_name g.name) (is_value g.val) h.name h.val) h.scl) h.ty) h.tag) h.line) h.size) h.dims
 
 empty_is : (k : List ℕ) → is_name k ≡ true → IsGroup (empty_group k)
 empty_is k h = record { name = h; val = refl; scl = refl; ty = refl; tag = refl; line = refl; size = refl; dims = refl }
 
 four_are : (ns : List ℕ) → list_all is_half ns ≡ true → are_dimensions (four ns) ≡ true
 four_are [] h = refl
-four_are (a ∷ []) h = both (is_half a) true (and_left (is_half a) true h) refl
+four_are (a ∷ []) h = and_from (is_half a) true (and_left (is_half a) true h) refl
 four_are (a ∷ (b ∷ [])) h = h
 four_are (a ∷ (b ∷ (c ∷ []))) h = h
 four_are (a ∷ (b ∷ (c ∷ (d ∷ ns)))) h =
     let ha = and_left (is_half a) _ h in let ra = and_right (is_half a) (is_half b && (is_half c && (is_half d && list_all is_half ns))) h in
     let hb = and_left (is_half b) _ ra in let rb = and_right (is_half b) (is_half c && (is_half d && list_all is_half ns)) ra in
     let hc = and_left (is_half c) _ rb in let rc = and_right (is_half c) (is_half d && list_all is_half ns) rb in
-    both (is_half a) _ ha (both (is_half b) _ hb (both (is_half c) _ hc (both (is_half d) true (and_left (is_half d) _ rc) refl)))
+    and_from (is_half a) _ ha (and_from (is_half b) _ hb (and_from (is_half c) _ hc (and_from (is_half d) true (and_left (is_half d) _ rc) refl)))
 
 with_part_is : (g : DefGroup) (p : Part) → IsGroup g → IsPart p → IsGroup (with_part g p)
 with_part_is g (val v) h e = record { name = h.name; val = e; scl = h.scl; ty = h.ty; tag = h.tag; line = h.line; size = h.size; dims = h.dims }
@@ -92,7 +93,7 @@ files_more [] i = omega arith
 files_more (x ∷ xs) i = let e = files_more xs i in omega arith
 
 all_more : (xs : List Item) (i : Item) → list_all is_item xs ≡ true → is_item i ≡ true → list_all is_item (xs ++ (i ∷ [])) ≡ true
-all_more xs i h g = list_all-append is_item xs (i ∷ []) ∙ both (list_all is_item xs) (is_item i && true) h (both (is_item i) true g refl)
+all_more xs i h g = list_all-append is_item xs (i ∷ []) ∙ and_from (list_all is_item xs) (is_item i && true) h (and_from (is_item i) true g refl)
 
 -- an item that names no file, or the first that does
 few_more : (st : State) (i : Item) → files st.done ≤ most st.filed → (is_file i ≡ true → st.filed ≡ false) → files (st.done ++ (i ∷ [])) ≤ most (cond (is_file i) true st.filed)
@@ -162,7 +163,7 @@ at_most_one true n h = grind (arith, nat_tests)
 at_most_one false n h = grind (arith, nat_tests)
 
 done_is : (st : State) → IsState st → are_normal st.done ≡ true
-done_is st h = both (list_all is_item st.done) (nat_lt (files st.done) 2) h.items (at_most_one st.filed (files st.done) h.few)
+done_is st h = and_from (list_all is_item st.done) (nat_lt (files st.done) 2) h.items (at_most_one st.filed (files st.done) h.few)
 
 abbrev AreItems : Result (List Item) ℕ → Type 0
 AreItems (Ok is) = are_normal is ≡ true

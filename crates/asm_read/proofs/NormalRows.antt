@@ -4,7 +4,7 @@ use Rattle.std.specs.Prelude.{nat_eq, nat_lt, nat_le, ◌&&◌, codes}
 use Rattle.std.specs.Int.{cast_signed}
 use Rattle.std.specs.Option.{option_map}
 use Rattle.std.specs.Str.{bytes_eq}
-use Rattle.std.proofs.lemmas.Bool.{cases_lt}
+use Rattle.std.proofs.lemmas.Bool.{cases_lt, and_from}
 use Rattle.std.proofs.lemmas.Bool.Decides.{nat_tests}
 use Rattle.std.proofs.lemmas.Int.{to_z_pos}
 use Rattle.std.proofs.lemmas.Nat.{mod_below}
@@ -38,7 +38,6 @@ use Rattle.asm_item.specs.Normal.{is_name, is_full, is_signed, is_zero, is_regis
 use Rattle.asm_read.specs.Numerals.{◌>>=◌, within, full_of, signed_of}
 use Rattle.asm_read.specs.Table as table
 use Rattle.asm_read.specs.Table.{Coded, Placed, Valued, Paired, Pair, stored, loaded, given, coded, placed, named, absolute, is_size, register_of, immediate, one_label, from_register, to_register, from_number, pair, of_pair, paired, multiplied, widened, single, shifted, is_value, lcall, two, jump, call, stack, push_number, pushl, rep, one, alone}
-use Rattle.asm_read.proofs.Joined.{both}
 use Rattle.asm_read.proofs.Inverse.{to_high, below}
 use Rattle.asm_read.proofs.Holds.{Holds, behind, behind_any, mapped, either_way, if_so}
 use Rattle.asm_read.proofs.WrittenArguments.{IsWrittenOp, IsWritten}
@@ -108,10 +107,10 @@ IsOther (base n r) = Unit {0}
 
 based_is : (r : ℕ) (b : Bool) → nat_eq r 4 ≡ b → nat_lt r 8 ≡ true → is_based r (cond b (Some (4, 0)) None) ≡ true
 based_is r true e h = ap (λ x. x && true && true) e
-based_is r false e h = both (nat_lt r 8) (cond (nat_eq r 4) false true) h (ap (λ x. cond x false true) e)
+based_is r false e h = and_from (nat_lt r 8) (cond (nat_eq r 4) false true) h (ap (λ x. cond x false true) e)
 
 behind_is : (r : ℕ) (d : ℤ) → nat_lt r 8 ≡ true → is_signed d ≡ true → is_memory (table.behind r d) ≡ true
-behind_is r d h e = both _ (is_signed d) (both (is_based r (cond (nat_eq r 4) (Some (4, 0)) None)) true (based_is r (nat_eq r 4) refl h) refl) e
+behind_is r d h e = and_from _ (is_signed d) (and_from (is_based r (cond (nat_eq r 4) (Some (4, 0)) None)) true (based_is r (nat_eq r 4) refl h) refl) e
 
 memory_of : (s : Size) (o : Op) → IsWrittenOp o → IsOther o → Holds IsMemory (table.operand_of s o)
 memory_of s (register t r) h x = absurd x
@@ -168,21 +167,21 @@ abbrev pub IsCoded : Coded → Type 0
 IsCoded c = IsCode c.ins c.label
 
 code_is : (i : Ins) (l : Option Label) → is_first i ≡ true → is_labelled i l ≡ true → IsCode i l
-code_is i l h g = both (is_first i) (is_labelled i l) h g
+code_is i l h g = and_from (is_first i) (is_labelled i l) h g
 
 -- a label in the displacement, where there is one
 held : (i : Ins) (o : Opnd) (l : Option Label) → normal.operand_of i ≡ Some o → distance_of i ≡ None → IsHeld o l → is_labelled i l ≡ true
 held i o None eo ed h = ap has_no_distance ed
 held i o (Some l) eo ed h =
-    both (is_name l.name) (is_place i l.field l.add) h.1
-    (ap (λ f. is_place i f l.add) h.0 ∙ both (is_free_memory (normal.operand_of i)) (is_signed l.add) (ap is_free_memory eo ∙ h.2) h.3)
+    and_from (is_name l.name) (is_place i l.field l.add) h.1
+    (ap (λ f. is_place i f l.add) h.0 ∙ and_from (is_free_memory (normal.operand_of i)) (is_signed l.add) (ap is_free_memory eo ∙ h.2) h.3)
 
 -- a label in place of the number, where there is one
 named_is : (i : Ins) (n : ℕ) (l : Option Label) → normal.number_of i ≡ Some n → distance_of i ≡ None → IsNamed n l → is_labelled i l ≡ true
 named_is i n None en ed h = ap has_no_distance ed
 named_is i n (Some l) en ed h =
-    both (is_name l.name) (is_place i l.field l.add) h.1
-    (ap (λ f. is_place i f l.add) h.0 ∙ both (is_free_number (normal.number_of i)) (is_zero l.add) (ap is_free_number en ∙ h.2) h.3)
+    and_from (is_name l.name) (is_place i l.field l.add) h.1
+    (ap (λ f. is_place i f l.add) h.0 ∙ and_from (is_free_number (normal.number_of i)) (is_zero l.add) (ap is_free_number en ∙ h.2) h.3)
 
 -- ---- two operands
 
@@ -242,7 +241,7 @@ Makes make s = (p : Pair) (l : Option Label) → IsPair s p l → Holds (λ i. I
 
 -- a register and an operand
 with_both : (i : Ins) (r : Bool) (o : Bool) (l : Option Label) → is_first i ≡ (r && o) → r ≡ true → o ≡ true → is_labelled i l ≡ true → IsCode i l
-with_both i r o l e hr ho g = code_is i l (e ∙ both r o hr ho) g
+with_both i r o l e hr ho g = code_is i l (e ∙ and_from r o hr ho) g
 
 given_held : (i : Ins) (n : ℕ) (o : Opnd) (l : Option Label) → normal.number_of i ≡ Some n → normal.operand_of i ≡ Some o → distance_of i ≡ None → IsEither n o l → is_labelled i l ≡ true
 given_held i n o None en eo ed h = ap has_no_distance ed
@@ -344,7 +343,7 @@ two_is words.Lcall a b h g = lcall_is a b
 two_is w a b h g = tt
 
 call_to : (a : Argument) → IsWritten a → Holds IsCoded (jump (Call (Relative (pos 0))) a)
-call_to (plain (name k)) h = both (is_name k) true h refl
+call_to (plain (name k)) h = and_from (is_name k) true h refl
 call_to a h = tt
 
 call_is : (a : Argument) → IsWritten a → Holds IsCoded (call a)
@@ -352,20 +351,20 @@ call_is (star o) h = single_is words.Call (table.operand_of sizes.Full o) (opera
 call_is a h = call_to a h
 
 jump_is : (a : Argument) → IsWritten a → Holds IsCoded (jump (Jump (Near (pos 0))) a)
-jump_is (plain (name k)) h = both (is_name k) true h refl
+jump_is (plain (name k)) h = and_from (is_name k) true h refl
 jump_is a h = tt
 
 branch_is : (c : Rattle.isa386.specs.declared.ins.Cond.Cond) (a : Argument) → IsWritten a → Holds IsCoded (jump (Branch c (Near (pos 0))) a)
-branch_is c (plain (name k)) h = both (is_name k) true h refl
+branch_is c (plain (name k)) h = and_from (is_name k) true h refl
 branch_is c a h = tt
 
 push_is : (r : Option ℕ) → Holds (λ r. is_register sizes.Full r ≡ true) r → Holds IsCoded (stack (option_map (λ r. Push r) r))
 push_is None h = tt
-push_is (Some r) h = both (is_register sizes.Full r) true h refl
+push_is (Some r) h = and_from (is_register sizes.Full r) true h refl
 
 pop_is : (r : Option ℕ) → Holds (λ r. is_register sizes.Full r ≡ true) r → Holds IsCoded (stack (option_map (λ r. Pop r) r))
 pop_is None h = tt
-pop_is (Some r) h = both (is_register sizes.Full r) true h refl
+pop_is (Some r) h = and_from (is_register sizes.Full r) true h refl
 
 push_number_is : (n : Option Valued) → Holds IsValued n → Holds IsCoded (push_number n)
 push_number_is None h = tt

@@ -23,10 +23,10 @@ use Rattle.asm_read.specs.Arguments.{arguments_at}
 use Rattle.asm_read.specs.Table.{Coded, is_number, two, one, alone}
 use Rattle.asm_read.specs.Stmts as s
 use Rattle.asm_read.specs.Stmts.{Stmt, item, begin, part, end, wrong, one_item, one_part, code, name_of, number_of, opposite, word_label, each_half, dimensions, line_number, align, bare_statement, directive, group_part, begin_of, one_statement, common_of, common, two_statement, long_statement, make, keyword_named, or_wrong, statement_at, label_at, stmts_at, is_semicolon, stmts_of}
-use Rattle.asm_read.proofs.Joined.{both}
 use Rattle.asm_read.proofs.Holds.{Holds, behind, behind_any, mapped, weaker, if_so}
 use Rattle.asm_read.proofs.WrittenArguments.{IsWritten, AreWritten, arguments_written}
 use Rattle.asm_read.proofs.NormalRows.{number_within, full_is, cast_is, signed_is, IsCoded, two_is, one_is, alone_is}
+use Rattle.std.proofs.lemmas.Bool.{and_from}
 
 -- ---- the values of one argument
 
@@ -54,7 +54,7 @@ opposite_is n = behind_any (λ z. is_signed z ≡ true) (full_of n) (λ x. Some 
     small x = let h = mod_below (4294967296 - x) 4294967296 (omega arith) in grind (arith, nat_tests)
 
 word_label_is : (k : List ℕ) (add : Option ℤ) → is_name k ≡ true → Holds (λ z. is_signed z ≡ true) add → Holds (λ w. is_datum w ≡ true) (word_label k add)
-word_label_is k add h g = behind (λ z. is_signed z ≡ true) (λ w. is_datum w ≡ true) add (λ z. Some (datum_of.Label k z)) g (λ z e. both (is_name k) (is_signed z) h e)
+word_label_is k add h g = behind (λ z. is_signed z ≡ true) (λ w. is_datum w ≡ true) add (λ z. Some (datum_of.Label k z)) g (λ z e. and_from (is_name k) (is_signed z) h e)
 
 datum_is : (a : Argument) → IsWritten a → Holds (λ w. is_datum w ≡ true) (s.datum a)
 datum_is (plain (number n)) h = mapped (λ x. is_full x ≡ true) (λ w. is_datum w ≡ true) (full_of n) (λ x. datum_of.Number x) (full_is n) (λ x e. e)
@@ -110,7 +110,7 @@ not_zero n h = grind (arith, nat_tests)
 line_is : (a : Argument) → Holds IsItem (line_number a)
 line_is a =
     behind (λ n. is_half n ≡ true) IsItem (s.half a) (λ n. cond (nat_eq n 0) None (Some (items.Ln n))) (half_argument a)
-    (λ n e. Rattle.asm_read.proofs.Holds.either_way IsItem (nat_eq n 0) None (Some (items.Ln n)) (λ z. tt) (λ z. both (nat_le 1 n) (is_half n) (not_zero n z) e))
+    (λ n e. Rattle.asm_read.proofs.Holds.either_way IsItem (nat_eq n 0) None (Some (items.Ln n)) (λ z. tt) (λ z. and_from (nat_le 1 n) (is_half n) (not_zero n z) e))
 
 align_is : (a : Argument) → Holds IsItem (align a)
 align_is a = if_so IsItem (is_number 4 (s.full a)) (Some items.Align) (λ e. refl)
@@ -142,7 +142,7 @@ halves_are : (more : List Argument) → Holds AreHalves (each_half more)
 halves_are [] = refl
 halves_are (a ∷ more) =
     behind (λ n. is_half n ≡ true) AreHalves (s.half a) (λ n. each_half more >>= λ ns. Some (n ∷ ns)) (half_argument a)
-    (λ n e. behind AreHalves AreHalves (each_half more) (λ ns. Some (n ∷ ns)) (halves_are more) (λ ns es. both (is_half n) (list_all is_half ns) e es))
+    (λ n e. behind AreHalves AreHalves (each_half more) (λ ns. Some (n ∷ ns)) (halves_are more) (λ ns es. and_from (is_half n) (list_all is_half ns) e es))
 
 dimensions_are : (more : List Argument) → Holds IsPart (dimensions more)
 dimensions_are more = mapped AreHalves IsPart (each_half more) (λ ns. dims ns) (halves_are more) (λ ns e. e)
@@ -176,8 +176,8 @@ one_statement_is words.Dim a h = part_stmt (dimensions (a ∷ [])) (dimensions_a
 one_statement_is w a h = code_stmt (one w a) (one_is w a h)
 
 common_is : (w : Keyword) (k : List ℕ) (n : ℕ) → is_name k ≡ true → is_full n ≡ true → IsItem (common_of w k n)
-common_is words.Comm k n h g = both (is_name k) (is_full n) h g
-common_is w k n h g = both (is_name k) (is_full n) h g
+common_is words.Comm k n h g = and_from (is_name k) (is_full n) h g
+common_is w k n h g = and_from (is_name k) (is_full n) h g
 
 commons_are : (w : Keyword) (a b : Argument) → IsWritten a → Holds IsItem (common w a b)
 commons_are w a b h =

@@ -10,7 +10,9 @@ use Rattle.asm_item.specs.Normal.{is_digit, is_name_byte, is_name}
 use Rattle.asm_read.specs.Tokens.{IsWord}
 use Rattle.asm_read.specs.Numerals.{◌>>=◌, digit, longer, digits, after_zero, numeral}
 use Rattle.asm_read.proofs.Scanned.{letter}
-use Rattle.asm_read.proofs.Joined.{and_left, and_right, both, and_false, all_weaker}
+use Rattle.asm_read.proofs.Joined.{and_left, and_right, all_weaker}
+use Rattle.std.proofs.lemmas.Bool.{and_from}
+use Rattle.std.proofs.Math.Bool.{and-false}
 
 -- bytes of a name, one at least, make a word
 pub words : (w : List ℕ) → list_all is_name_byte w ≡ true → 0 < length w → IsWord w
@@ -39,7 +41,7 @@ no_dot [] h = absurd cc
 no_dot (c ∷ []) h =
     let alone = or_right (is_digit c) (nat_eq c 46) (off (is_digit c || nat_eq c 46) (and_right (is_name_byte c) (cond (is_digit c || nat_eq c 46) false true) h)) in
     ap (λ b. b && true) alone
-no_dot (c ∷ (d ∷ k)) h = and_false (nat_eq c 46)
+no_dot (c ∷ (d ∷ k)) h = and-false (nat_eq c 46)
 
 -- ---- numbers
 
@@ -50,7 +52,7 @@ one_digit : (n : ℕ) → n < 10 → is_digit (48 + n) ≡ true
 one_digit n h = grind (arith, nat_tests)
 
 pub decimal_digits : (n : ℕ) → n < 2 ^ 64 → list_all is_digit (decimal n) ≡ true
-decimal_digits = decimal_by_steps (λ n ds. list_all is_digit ds ≡ true) (λ n h. both (is_digit (48 + n)) true (one_digit n h) refl) (λ n ds ten h. list_all-append is_digit ds ((48 + n % 10) ∷ []) ∙ both (list_all is_digit ds) (is_digit (48 + n % 10) && true) h (both (is_digit (48 + n % 10)) true (one_digit (n % 10) (omega arith)) refl))
+decimal_digits = decimal_by_steps (λ n ds. list_all is_digit ds ≡ true) (λ n h. and_from (is_digit (48 + n)) true (one_digit n h) refl) (λ n ds ten h. list_all-append is_digit ds ((48 + n % 10) ∷ []) ∙ and_from (list_all is_digit ds) (is_digit (48 + n % 10) && true) h (and_from (is_digit (48 + n % 10)) true (one_digit (n % 10) (omega arith)) refl))
 
 pub decimal_word : (n : ℕ) → n < 2 ^ 64 → IsWord (decimal n)
 decimal_word n h = words (decimal n) (all_weaker is_digit is_name_byte digit_byte (decimal n) (decimal_digits n h)) (decimal_nonempty n h)
@@ -58,10 +60,10 @@ decimal_word n h = words (decimal n) (all_weaker is_digit is_name_byte digit_byt
 -- a word of digits is no name
 pub no_name : (w : List ℕ) → list_all is_digit w ≡ true → is_name w ≡ false
 no_name [] h = refl
-no_name (c ∷ []) h = ap (λ b. is_name_byte c && cond (b || nat_eq c 46) false true) (and_left (is_digit c) true h) ∙ and_false (is_name_byte c)
+no_name (c ∷ []) h = ap (λ b. is_name_byte c && cond (b || nat_eq c 46) false true) (and_left (is_digit c) true h) ∙ and-false (is_name_byte c)
 no_name (c ∷ (d ∷ w)) h =
     ap (λ b. (is_name_byte c && cond b false true) && list_all is_name_byte (d ∷ w)) (and_left (is_digit c) (list_all is_digit (d ∷ w)) h)
-    ∙ ap (λ b. b && list_all is_name_byte (d ∷ w)) (and_false (is_name_byte c))
+    ∙ ap (λ b. b && list_all is_name_byte (d ∷ w)) (and-false (is_name_byte c))
 
 no_point : (c : ℕ) → is_digit c ≡ true → nat_eq c 46 ≡ false
 no_point c h = grind (arith, nat_tests)
@@ -69,7 +71,7 @@ no_point c h = grind (arith, nat_tests)
 pub no_place : (w : List ℕ) → list_all is_digit w ≡ true → bytes_eq w (codes ".") ≡ false
 no_place [] h = refl
 no_place (c ∷ []) h = ap (λ b. b && true) (no_point c (and_left (is_digit c) true h))
-no_place (c ∷ (d ∷ w)) h = and_false (nat_eq c 46)
+no_place (c ∷ (d ∷ w)) h = and-false (nat_eq c 46)
 
 digit_is : (n : ℕ) → n < 10 → digit (48 + n) ≡ n
 digit_is n h = grind (arith, nat_tests)

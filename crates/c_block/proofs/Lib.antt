@@ -1,9 +1,3 @@
-pub mod FromHere
-pub mod Here
-pub mod Inits
 pub mod LabelsDiffer
-pub mod Lists
-pub mod Objects
 pub mod Outside
 pub mod StatementRows
-pub mod TextsMet

@@ -30,7 +30,7 @@ use Rattle.c_rule.specs.Judging.{Behind, behind, judged_by, judged_option, judge
 use Rattle.c_scope.specs.Says.{Refused}
 use Rattle.c_block.specs.SwitchParts as sp
 use Rattle.c_block.specs.SwitchParts.{Part, put, part_of, judged_part}
-use Rattle.c_block.proofs.Lists.{onto, front, given}
+use Rattle.c_local.proofs.Lists.{onto, front, given, body_refused}
 
 -- the trees of statements that hold a `Vec` of trees, from the lists of their parts
 
@@ -130,10 +130,6 @@ module _ (c c1 c2 c3 c4 : Env) (p : Place) (l : ℕ) (a b g : Option Expr) (s : 
 
 pub body_says : {A B : Type 0} (whole : Judged (Behind A)) (j : Judged (Behind B)) (f : B → A) (x : B) (e : Env) → whole ≡ onward j (λ r. behind (f r.tree) r.env) → j ≡ behind x e → whole ≡ behind (f x) e
 body_says whole j f x e p q = p ∙ ap (λ k. onward k (λ r. behind (f r.tree) r.env)) q
-
-pub body_refused : {A B : Type 0} (whole : Judged A) (j : Judged B) (f : B → Judged A) (w : TypeErr) → whole ≡ onward j f → Refused j w → Refused whole w
-body_refused whole j f (Rule n r) p q = p ∙ ap (λ k. onward k f) q
-body_refused whole j f Memory p q = tt
 
 pub return_row : (c d e : Env) (p : Place) (l : ℕ) (a : Option Expr) (v : Option TExpr) → judged_option (value_for 23 c p.result) c a ≡ Is v → d ≡ past_option a c → e ≡ started 1 d →
     judged_stmt c p (us.return l a) ≡ behind (st.return_ c.starts l v) e

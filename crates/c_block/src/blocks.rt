@@ -11,13 +11,13 @@ ghost use Rattle.c_tree.specs.TypedOf.{option_of, stmt_of, stmts_from, items_fro
 ghost use Rattle.c_rule.specs.Judging.{behind, judged_by, judged_stmt, judged_stmts, judged_items};
 ghost use Rattle.c_scope.specs.EnvOf.{env_of};
 ghost use Rattle.c_scope.specs.Says.{Says, SaysBehind};
-ghost use Rattle.c_value.specs.Boxed.{boxed, boxed_option};
-ghost use Rattle.c_block.specs.Boxed.{boxed_stmt};
+ghost use Rattle.c_operator.specs.Boxed.{boxed, boxed_option};
+ghost use Rattle.c_local.specs.Boxed.{boxed_stmt};
 ghost use Rattle.c_block.specs.PlaceOf.{place_of};
 ghost use Rattle.c_block.specs.SwitchParts.{judged_part, part_of};
 
 use crate::labels::labels_differ;
-use crate::locals::declarations;
+use c_local::declarations;
 use c_scope::{Scopes, TypeErr};
 use c_tree::{Block, Expr, Stmt, SwItem, TBlock, TExpr, TStmt, TSwItem};
 use c_type::CType;

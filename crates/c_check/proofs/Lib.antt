@@ -1,6 +1,3 @@
-pub mod InOrder
 pub mod Lawful
-pub mod Passed
 pub mod Placed
-pub mod TagBodies
 pub mod Rows

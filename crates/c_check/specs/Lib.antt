@@ -1,5 +1,3 @@
-pub mod Words
-pub mod TagParts
 pub mod FileParts
 pub mod Parameters
 pub mod Places

@@ -10,13 +10,13 @@ ghost use Rattle.c_rule.specs.RuleScope.{Alias, Function, Thing, function_ref, i
 ghost use Rattle.c_rule.specs.RuleTypes.{is_function as is_function_rule};
 ghost use Rattle.c_rule.specs.RuleStmts as s;
 ghost use Rattle.c_rule.specs.RuleUnit as r;
-ghost use Rattle.c_block.specs.Boxed.{boxed_declr};
+ghost use Rattle.c_local.specs.Boxed.{boxed_declr};
 ghost use Rattle.c_scope.specs.EnvOf.{env_of};
 ghost use Rattle.c_rule.specs.JudgingUnit as j;
 ghost use Rattle.c_scope.specs.Says.{Says, SaysBehind};
 ghost use Rattle.c_check.specs.FileParts.{judged_alias_here, judged_item_here};
 
-use c_block::{begin, declarator, is_static, line_of, missing};
+use c_local::{begin, declarator, is_static, line_of, missing};
 use c_scope::{Meaning, Scopes, TypeErr, copy, copy_name, is_function, is_sized};
 use c_tree::{Bound, Declr, Init, Item, Ref, Storage, TDeclr, TItem};
 use c_type::CType;
@@ -208,7 +208,7 @@ pub fn items(
 }
 
 /// A typedef name, which is new in the file.
-#[tactic(auto, using(crate::proofs::Passed::file_behind))]
+#[tactic(auto, using(c_tag::proofs::Passed::file_behind))]
 fn alias(c: &mut Scopes, base: &CType, declr: &Declr) -> Result<Box<TDeclr>, TypeErr>
     ensures judged { SaysBehind boxed_declr (env_of c.new) (judged_alias_here (env_of c.old) (type_of base.now) (u.declr_of declr.now)) result }
 {

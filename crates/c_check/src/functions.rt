@@ -3,6 +3,7 @@ ghost use Rattle.std.specs.Prelude.{◌≡◌, map, IfOk};
 ghost use Rattle.c_type.specs.Of.{type_of};
 ghost use Rattle.c_tree.specs.TreeOf as u;
 ghost use Rattle.c_tree.specs.TypedOf.{declr_of, par_of, var_of};
+ghost use Rattle.c_rule.specs.RuleTags as t;
 ghost use Rattle.c_rule.specs.RuleUnit as r;
 ghost use Rattle.c_scope.specs.EnvOf.{env_of};
 ghost use Rattle.c_rule.specs.JudgingUnit as j;
@@ -12,10 +13,12 @@ ghost use Rattle.c_check.specs.Parameters.{boxed_func};
 use crate::file_items::declare_function;
 use crate::name_list::NameList;
 use crate::parameters::{declared_in, declared_once, list_differs, list_of, par_decls, parameters};
-use c_block::{Place, declarations, statements};
+use c_block::{Place, statements};
+use c_local::declarations;
 use c_scope::{Scopes, TypeErr, copy, copy_name};
 use c_tree::{Block, Declr, ParDecl, TBlock, TDeclr, TFunc, TParDecl, TParam};
 use c_type::CType;
+use num_le::Name;
 use std::alloc::{AllocError, Global};
 
 /// What a function gives.
@@ -26,6 +29,22 @@ fn result_of(alloc: Global, line: u32, ty: &CType) -> Result<Box<CType>, TypeErr
         CType::Fun(gives) => Ok(Box::new(alloc, copy(alloc, gives)?)?),
         _ => Err(TypeErr::Rule(6, line)),
     }
+}
+
+/// The declarations of the parameters that a list names.
+fn declared_by(c: &mut Scopes, list: &[Name], params: &[ParDecl]) -> Result<Vec<TParDecl>, TypeErr>
+    ensures judged { SaysBehind (λ x. map par_of x.items) (env_of c.new) (j.judged_par_decls (env_of c.old) list.now (map u.par_of params.now)) result }
+{
+    let names = NameList::of_names(c.alloc, list)?;
+    par_decls(c, &names, params)
+}
+
+/// Whether the declarations declare each name once.
+fn are_declared_once(alloc: Global, params: &[TParDecl]) -> Result<bool, AllocError>
+    ensures { IfOk result (λ b. b ≡ t.names_differ (r.names_of (map par_of params.now))) }
+{
+    let declared = declared_in(alloc, params)?;
+    declared_once(alloc, &declared)
 }
 
 /// The declarations of a function's parameters. Behind them its name is in scope.
@@ -41,12 +60,11 @@ fn head(
 {
     let alloc = c.alloc;
     let list = list_of(h);
-    let names = NameList::of_names(alloc, list)?;
-    let typed = par_decls(c, &names, params)?;
+    let typed = declared_by(c, list, params)?;
     if !list_differs(alloc, list)? {
         return Err(TypeErr::Rule(1, line));
     }
-    if !declared_once(alloc, &declared_in(alloc, &typed)?)? {
+    if !are_declared_once(alloc, &typed)? {
         return Err(TypeErr::Rule(1, line));
     }
     declare_function(c, line, own, declr)?;

@@ -7,7 +7,7 @@ ghost use Rattle.c_tree.specs.TypedOf.{declr_of, par_of, var_of};
 ghost use Rattle.c_rule.specs.RuleDecls as d;
 ghost use Rattle.c_rule.specs.RuleTags as t;
 ghost use Rattle.c_rule.specs.RuleUnit as r;
-ghost use Rattle.c_block.specs.Boxed.{boxed_declr};
+ghost use Rattle.c_local.specs.Boxed.{boxed_declr};
 ghost use Rattle.c_scope.specs.EnvOf.{env_of};
 ghost use Rattle.c_rule.specs.JudgingUnit as j;
 ghost use Rattle.c_scope.specs.Says.{SaysBehind};
@@ -15,9 +15,9 @@ ghost use Rattle.c_check.specs.Parameters.{judged_par_decl_here, judged_paramete
 ghost use Rattle.c_check.specs.ListOf.{names_of};
 
 use crate::name_list::NameList;
-use crate::tags::types;
-use c_block::{declarator, is_name, line_of};
+use c_local::{declarator, is_name, line_of};
 use c_scope::{Scopes, TypeErr, copy, copy_name, names_differ};
+use c_tag::types;
 use c_tree::{Declr, ParDecl, TDeclr, TParDecl, TParam};
 use c_type::{CType, Kind};
 use num_le::Name;

@@ -17,10 +17,9 @@ ghost use Rattle.c_scope.specs.Says.{Says, SaysBehind};
 
 use crate::file_items::{aliases, items};
 use crate::functions::function;
-use crate::head_words::head_words;
-use crate::tags::{tag_def, types_or_int};
-use c_block::{head_declarator, line_of};
+use c_local::{head_declarator, line_of};
 use c_scope::{Scopes, TypeErr, declared, first_again, is_static_function};
+use c_tag::{head_words, tag_def, types_or_int};
 use c_tree::{
     Block, Declr, Ext, FileSpecs, Item, ParDecl, TExt, TSpec, TagSpec, TypedUnit, Types, Unit,
 };

@@ -1,5 +1,6 @@
 // Lists of declarators, initialisers, and declarators with their initialisers.
-ghost use Rattle.std.specs.Prelude.{◌≡◌, ◌+◌, length, map};
+ghost use Rattle.std.specs.Prelude.{◌≡◌, ◌+◌, ◌≤◌, IfOk, Some, length, map};
+ghost use Rattle.c_lex.specs.Shown.{tokens_of};
 ghost use Rattle.c_tree.specs.TreeDecl.{init_depth, item_depth, group};
 ghost use Rattle.c_tree.specs.TreeOf.{declr_of, init_of, inits_from, item_of, part_of};
 ghost use Rattle.c_grammar.specs.Reads.{most};
@@ -11,7 +12,7 @@ ghost use Rattle.c_decl.specs.ReadDeclr as r;
 ghost use Rattle.c_decl.specs.ReadInit as i;
 
 use crate::depth::{MAX_DEPTH, init_exceeds, item_exceeds};
-use crate::marks::{CLOSE_BRACE, COMMA, EQUALS, OPEN_BRACE};
+use crate::marks::{CLOSE_BRACE, COMMA, EQUALS, OPEN_BRACE, SEMICOLON};
 use crate::reader::Reader;
 use c_expr::ParseErr;
 use c_tree::{Declr, Init, Item};
@@ -113,20 +114,27 @@ impl Reader<'_> {
         Ok((item, at))
     }
 
-    /// A declarator and its initialiser, if it has one.
-    fn item(&self, at: usize) -> Result<(Item, usize), ParseErr>
-        ensures { Gives (found item_of self.now) result (i.item (names self.now) most (expression (names self.now)) (rest self.now at)) }
+    /// A declarator with its initialiser, from behind its `=` on.
+    fn given(&self, declr: Declr, at: usize) -> Result<(Item, usize), ParseErr>
+        ensures { Gives (found item_of self.now) result (i.given_by (names self.now) most (expression (names self.now)) (declr_of declr) (rest self.now at) (Some (rest self.now at))) }
     {
-        let (declr, behind) = self.plain_declr(at)?;
-        let Some(given) = self.eat(EQUALS, behind) else {
-            return self.low_item(Item { declr, init: None }, behind);
-        };
-        let (init, after) = self.init(MAX_DEPTH, given)?;
+        let (init, after) = self.init(MAX_DEPTH, at)?;
         let item = Item {
             declr,
             init: Some(init),
         };
         self.low_item(item, after)
+    }
+
+    /// A declarator and its initialiser, if it has one.
+    fn item(&self, at: usize) -> Result<(Item, usize), ParseErr>
+        ensures { Gives (found item_of self.now) result (i.item (names self.now) most (expression (names self.now)) (rest self.now at)) }
+    {
+        let (declr, behind) = self.plain_declr(at)?;
+        match self.eat(EQUALS, behind) {
+            Some(after) => self.given(declr, after),
+            None => self.low_item(Item { declr, init: None }, behind),
+        }
     }
 
     /// Declarators with their initialisers, with commas between them.
@@ -144,5 +152,25 @@ impl Reader<'_> {
             }
         }
         Err(self.refusal(at))
+    }
+
+    /// Declarators without names of parameters, up to and with the semicolon behind them.
+    pub fn ended_declrs(&self, at: usize) -> Result<(Vec<Declr>, usize), ParseErr>
+        ensures read { Gives (found (λ v. map declr_of v.items) self.now) result (f.along (separated (r.plain_declr (names self.now) most (expression (names self.now))) (length (rest self.now at)) (rest self.now at)) (λ x. f.along (f.eat SEMICOLON x.1) (λ after. Some (x.0, after)))) }
+        ensures within { IfOk result (λ x. x.1 ≤ length (tokens_of self.now.tokens.now)) }
+    {
+        let (declrs, end) = self.declrs(at)?;
+        let after = self.expect(SEMICOLON, end)?;
+        Ok((declrs, after))
+    }
+
+    /// Declarators with their initialisers, up to and with the semicolon behind them.
+    pub fn ended_items(&self, at: usize) -> Result<(Vec<Item>, usize), ParseErr>
+        ensures read { Gives (found (λ v. map item_of v.items) self.now) result (f.along (separated (i.item (names self.now) most (expression (names self.now))) (length (rest self.now at)) (rest self.now at)) (λ x. f.along (f.eat SEMICOLON x.1) (λ after. Some (x.0, after)))) }
+        ensures within { IfOk result (λ x. x.1 ≤ length (tokens_of self.now.tokens.now)) }
+    {
+        let (items, end) = self.items(at)?;
+        let after = self.expect(SEMICOLON, end)?;
+        Ok((items, after))
     }
 }

@@ -1,12 +1,14 @@
 // Declarations outside of blocks, and the heads of functions.
-ghost use Rattle.std.specs.Prelude.{◌≡◌, ◌≤◌, IfOk, length, Some, None};
-ghost use Rattle.c_tree.specs.TreeOf.{declr_of};
+ghost use Rattle.std.specs.Prelude.{◌≡◌, ◌≤◌, IfOk, length, map, true, Some, None};
+ghost use Rattle.c_tree.specs.TreeOf.{declr_of, file_specs_of, item_of, part_of, types_of};
+ghost use Rattle.c_tree.specs.TreeUnit as u;
 ghost use Rattle.c_grammar.specs.Reads.{most};
 ghost use Rattle.c_type.specs.Names.{pick};
 ghost use Rattle.c_lex.specs.Shown.{tokens_of};
+ghost use Rattle.c_expr.specs.Front as f;
 ghost use Rattle.c_decl.specs.Answers.{Gives, found, names, rest};
 ghost use Rattle.c_decl.specs.Expression.{expression};
-ghost use Rattle.c_decl.specs.HeadOf.{outside_of};
+ghost use Rattle.c_decl.specs.HeadOf.{head_of, outside_of};
 ghost use Rattle.c_decl.specs.Named.{declares_function as declares_function_lem};
 ghost use Rattle.c_decl.specs.ReadDecl as e;
 ghost use Rattle.c_decl.specs.WordsOf.{found_of};
@@ -22,7 +24,7 @@ use crate::words::Words;
 use crate::{FuncHead, Head};
 use c_expr::ParseErr;
 use c_lex::{Tok, Token};
-use c_tree::{Declr, Ext};
+use c_tree::{Declr, Ext, FileSpecs, Item, Types};
 
 impl Reader<'_> {
     /// Whether the declarator of an object ends before a place, and none of a function.
@@ -55,38 +57,156 @@ impl Reader<'_> {
         Ok((Head::Whole(Ext::TagOnly(line, tag)), at))
     }
 
-    /// The declarators of a typedef behind its words.
+    /// The type of a typedef by its words.
+    fn typedef_specs(&self, words: Words, at: usize) -> Result<Option<Types>, ParseErr>
+        ensures { Gives (part_of types_of) result (e.typedef_types (found_of words)) }
+    {
+        match typedef_types(self.alloc, words)? {
+            Some(types) => Ok(types),
+            None => Err(self.refusal(at)),
+        }
+    }
+
+    /// A typedef that is no deeper than the greatest depth.
+    fn low_typedef(
+        &self,
+        line: u32,
+        types: Option<Types>,
+        declrs: Vec<Declr>,
+        at: usize,
+    ) -> Result<(Head, usize), ParseErr>
+        ensures read { Gives (found outside_of self.now) result (e.whole_at (f.grown u.ext_depth most (u.typedef line (part_of types_of types) (map declr_of declrs.items)) (rest self.now at))) }
+        ensures place { IfOk result (λ x. x.1 ≡ at) }
+    {
+        if optional_types_exceed(&types, MAX_DEPTH - 1) || declrs_exceed(&declrs, MAX_DEPTH - 1) {
+            return Err(self.refusal(at));
+        }
+        Ok((Head::Whole(Ext::Typedef(line, types, declrs)), at))
+    }
+
+    /// The declarators of a typedef behind its type.
+    fn typedef_names(
+        &self,
+        line: u32,
+        types: Option<Types>,
+        at: usize,
+    ) -> Result<(Head, usize), ParseErr>
+        ensures read { Gives (found outside_of self.now) result (e.whole_at (e.typedef_by (names self.now) most (expression (names self.now)) line (Some (part_of types_of types)) (rest self.now at))) }
+        ensures within { IfOk result (λ x. x.1 ≤ length (tokens_of self.now.tokens.now)) }
+    {
+        let (declrs, after) = self.ended_declrs(at)?;
+        self.low_typedef(line, types, declrs, after)
+    }
+
+    /// A typedef behind its words.
     fn typedef(&self, line: u32, words: Words, at: usize) -> Result<(Head, usize), ParseErr>
         ensures read { Gives (found outside_of self.now) result (e.whole_at (e.typedef_by (names self.now) most (expression (names self.now)) line (e.typedef_types (found_of words)) (rest self.now at))) }
         ensures within { IfOk result (λ x. x.1 ≤ length (tokens_of self.now.tokens.now)) }
     {
-        let Some(types) = typedef_types(self.alloc, words)? else {
-            return Err(self.refusal(at));
-        };
-        let (declrs, end) = self.declrs(at)?;
-        let after = self.expect(SEMICOLON, end)?;
-        if optional_types_exceed(&types, MAX_DEPTH - 1) || declrs_exceed(&declrs, MAX_DEPTH - 1) {
-            return Err(self.refusal(at));
-        }
-        Ok((Head::Whole(Ext::Typedef(line, types, declrs)), after))
+        let types = self.typedef_specs(words, at)?;
+        self.typedef_names(line, types, at)
     }
 
-    /// The items of a declaration of objects behind its words.
-    fn object(&self, line: u32, words: Words, at: usize) -> Result<(Head, usize), ParseErr>
-        ensures read { Gives (found outside_of self.now) result (e.whole_at (e.object_by (names self.now) most (expression (names self.now)) line (e.file_specs (found_of words)) (rest self.now at))) }
-        ensures within { IfOk result (λ x. x.1 ≤ length (tokens_of self.now.tokens.now)) }
+    /// What the words of objects say.
+    fn object_specs(&self, words: Words, at: usize) -> Result<FileSpecs, ParseErr>
+        ensures { Gives file_specs_of result (e.file_specs (found_of words)) }
     {
-        let Some(specs) = file_specs(self.alloc, words)? else {
-            return Err(self.refusal(at));
-        };
-        let (items, end) = self.items(at)?;
-        let after = self.expect(SEMICOLON, end)?;
+        match file_specs(self.alloc, words)? {
+            Some(specs) => Ok(specs),
+            None => Err(self.refusal(at)),
+        }
+    }
+
+    /// A declaration of objects that is no deeper than the greatest depth.
+    fn low_object(
+        &self,
+        line: u32,
+        specs: FileSpecs,
+        items: Vec<Item>,
+        at: usize,
+    ) -> Result<(Head, usize), ParseErr>
+        ensures read { Gives (found outside_of self.now) result (e.whole_at (f.grown u.ext_depth most (u.object line (file_specs_of specs) (map item_of items.items)) (rest self.now at))) }
+        ensures place { IfOk result (λ x. x.1 ≡ at) }
+    {
         if optional_types_exceed(&specs.types, MAX_DEPTH - 1)
             || items_exceed(&items, MAX_DEPTH - 1)
         {
             return Err(self.refusal(at));
         }
-        Ok((Head::Whole(Ext::Object(line, specs, items)), after))
+        Ok((Head::Whole(Ext::Object(line, specs, items)), at))
+    }
+
+    /// The items of a declaration of objects.
+    fn object_items(
+        &self,
+        line: u32,
+        specs: FileSpecs,
+        at: usize,
+    ) -> Result<(Head, usize), ParseErr>
+        ensures read { Gives (found outside_of self.now) result (e.whole_at (e.object_by (names self.now) most (expression (names self.now)) line (Some (file_specs_of specs)) (rest self.now at))) }
+        ensures within { IfOk result (λ x. x.1 ≤ length (tokens_of self.now.tokens.now)) }
+    {
+        let (items, after) = self.ended_items(at)?;
+        self.low_object(line, specs, items, after)
+    }
+
+    /// A declaration of objects behind its words.
+    fn object(&self, line: u32, words: Words, at: usize) -> Result<(Head, usize), ParseErr>
+        ensures read { Gives (found outside_of self.now) result (e.whole_at (e.object_by (names self.now) most (expression (names self.now)) line (e.file_specs (found_of words)) (rest self.now at))) }
+        ensures within { IfOk result (λ x. x.1 ≤ length (tokens_of self.now.tokens.now)) }
+    {
+        let specs = self.object_specs(words, at)?;
+        self.object_items(line, specs, at)
+    }
+
+    /// What the words of a function say, where the declarator declares one.
+    fn function_specs(
+        &self,
+        words: Words,
+        declr: &Declr,
+        at: usize,
+    ) -> Result<Option<FileSpecs>, ParseErr>
+        ensures { Gives (part_of file_specs_of) result (pick (declares_function_lem (declr_of declr.now)) (e.head_specs (found_of words)) None) }
+    {
+        if !declares_function(declr) {
+            return Err(self.refusal(at));
+        }
+        match head_specs(self.alloc, words)? {
+            Some(specs) => Ok(specs),
+            None => Err(self.refusal(at)),
+        }
+    }
+
+    /// The head of a function that is no deeper than the greatest depth.
+    fn low_head(&self, head: FuncHead, at: usize) -> Result<(Head, usize), ParseErr>
+        ensures read { Gives (found outside_of self.now) result (e.head_at (f.grown u.head_depth most (head_of head) (rest self.now at))) }
+        ensures place { IfOk result (λ x. x.1 ≡ at) }
+    {
+        if head_exceeds(&head, MAX_DEPTH) {
+            return Err(self.refusal(at));
+        }
+        Ok((Head::Func(head), at))
+    }
+
+    /// The declarations of parameters behind the declarator of a function, up to its block.
+    fn head_pars(
+        &self,
+        line: u32,
+        specs: Option<FileSpecs>,
+        declr: Declr,
+        at: usize,
+    ) -> Result<(Head, usize), ParseErr>
+        ensures read { Gives (found outside_of self.now) result (e.head_at (e.head_by (names self.now) most (expression (names self.now)) line (Some (part_of file_specs_of specs)) (declr_of declr) (rest self.now at))) }
+        ensures within { IfOk result (λ x. x.1 ≤ length (tokens_of self.now.tokens.now)) }
+    {
+        let (params, after) = self.pars(at)?;
+        let head = FuncHead {
+            line,
+            specs,
+            declr,
+            params,
+        };
+        self.low_head(head, after)
     }
 
     /// A function behind its words and its declarator, up to its block.
@@ -100,23 +220,20 @@ impl Reader<'_> {
         ensures read { Gives (found outside_of self.now) result (e.head_at (e.head_by (names self.now) most (expression (names self.now)) line (pick (declares_function_lem (declr_of declr)) (e.head_specs (found_of words)) None) (declr_of declr) (rest self.now at))) }
         ensures within { IfOk result (λ x. x.1 ≤ length (tokens_of self.now.tokens.now)) }
     {
-        if !declares_function(&declr) {
-            return Err(self.refusal(at));
+        let specs = self.function_specs(words, &declr, at)?;
+        self.head_pars(line, specs, declr, at)
+    }
+
+    /// Objects or a function, behind the words.
+    fn declared(&self, line: u32, words: Words, at: usize) -> Result<(Head, usize), ParseErr>
+        ensures read { Gives (found outside_of self.now) result (e.typed_by (names self.now) most (expression (names self.now)) line (found_of words) (rest self.now at) true) }
+        ensures within { IfOk result (λ x. x.1 ≤ length (tokens_of self.now.tokens.now)) }
+    {
+        let (declr, after) = self.loose_declr(at)?;
+        if self.is_item(after) {
+            return self.object(line, words, at);
         }
-        let Some(specs) = head_specs(self.alloc, words)? else {
-            return Err(self.refusal(at));
-        };
-        let (params, after) = self.pars(at)?;
-        let head = FuncHead {
-            line,
-            specs,
-            declr,
-            params,
-        };
-        if head_exceeds(&head, MAX_DEPTH) {
-            return Err(self.refusal(at));
-        }
-        Ok((Head::Func(head), after))
+        self.head(line, words, declr, after)
     }
 
     /// A declaration up to and with its semicolon, or a function up to its block.
@@ -132,10 +249,6 @@ impl Reader<'_> {
         if words.typedefs != 0 {
             return self.typedef(line, words, behind);
         }
-        let (declr, after) = self.loose_declr(behind)?;
-        if self.is_item(after) {
-            return self.object(line, words, behind);
-        }
-        self.head(line, words, declr, after)
+        self.declared(line, words, behind)
     }
 }

@@ -53,6 +53,23 @@ fn add_names(alloc: Global, head: &Head, defs: &mut Typedefs) -> Result<(), Allo
     }
 }
 
+/// What stands at a place, once the names of a typedef are added.
+fn with_names(
+    alloc: Global,
+    found: (Head, usize),
+    defs: &mut Typedefs,
+) -> Result<(Head, usize), ParseErr>
+    ensures same { IfOk result (λ x. x ≡ found) }
+    ensures names { IfOk result (λ x. names_of defs.new ≡ names_behind (names_of defs.old) x.0) }
+    ensures only_memory { OnNotC result ⊥ }
+    ensures shallow { IsNotTooDeep result }
+{
+    match add_names(alloc, &found.0, defs) {
+        Ok(()) => Ok(found),
+        Err(_) => Err(ParseErr::Memory),
+    }
+}
+
 /// One declaration outside of blocks, up to and with its semicolon, or the head of a function up to its block.
 ///
 /// The answer has the place of the token behind it. Tokens are counted from 0. The names of a typedef are added to the
@@ -70,9 +87,8 @@ pub fn external(
     ensures no_head { OnNotC result ((h : u.FuncHead) (k : ℕ) → IsHeadAt (names_of defs.old) (tokens_of t.now) at h k → ⊥) }
     ensures shallow { IsNotTooDeep result }
 {
-    let (head, after) = outside(alloc, t, at, defs)?;
-    add_names(alloc, &head, defs)?;
-    Ok((head, after))
+    let found = outside(alloc, t, at, defs)?;
+    with_names(alloc, found, defs)
 }
 
 /// One declaration in a block, up to and with its semicolon, and the place of the token behind it.

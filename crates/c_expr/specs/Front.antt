@@ -11,6 +11,10 @@ abbrev pub ◌>>=◌ : {A B : Type 0} → Option A → (A → Option B) → Opti
 None >>= f = None
 (Some x) >>= f = f x
 
+-- the same as a word
+abbrev pub along : {A B : Type 0} → Option A → (A → Option B) → Option B
+along o f = o >>= f
+
 -- what is read at the front, and the tokens behind it
 abbrev pub Read : Type 0 → Type 0
 Read A = Option (A × List Token)

@@ -8,6 +8,7 @@ pub mod Answer
 pub mod Shown
 pub mod Gives
 pub mod Parts
+pub mod Shapes
 pub mod Suffix
 pub mod Tally
 pub mod Part

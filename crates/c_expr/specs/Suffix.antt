@@ -7,7 +7,8 @@ use Rattle.c_tree.specs.declared.expr.StepOp.{StepOp}
 use Rattle.c_tree.specs.TreeExpr.{Expr}
 use Rattle.c_tree.specs.TreeExpr as t
 use Rattle.c_expr.specs.declared.suffix.Suffix.{Suffix}
-use Rattle.c_expr.specs.declared.suffix.Suffix.TheVariants.{Call, Index, Member, Arrow, Step}
+use Rattle.c_expr.specs.declared.suffix.Suffix.TheVariants.{Call, Index, Select, Step}
+use Rattle.c_expr.specs.declared.nodes.Selector.TheVariants.{Dot, Arrow}
 use Rattle.c_expr.specs.Front.{Read, eat, name_at, front_mark}
 use Rattle.c_expr.specs.Reading as r
 use Rattle.c_expr.specs.Shown.{left}
@@ -24,8 +25,8 @@ pub data Begun : Type 0 where
 abbrev pub begun_of : Suffix → Begun
 begun_of (Call x) = call (left x)
 begun_of (Index x) = index (left x)
-begun_of (Member x) = member (left x)
-begun_of (Arrow x) = arrow (left x)
+begun_of (Select Dot x) = member (left x)
+begun_of (Select Arrow x) = arrow (left x)
 begun_of (Step op x) = step op (left x)
 
 -- the first of the suffixes that is there

@@ -9,21 +9,12 @@ ghost use Rattle.c_expr.specs.Shown.{left};
 
 use crate::error::ParseErr;
 use crate::places::{COMMA, QUESTION};
-use crate::rest::{Found, Rest};
+use crate::rest::Rest;
 use c_grammar::{
     assignment_operator, binary_level, binary_operator, postfix_operator, prefix_operator,
 };
 use c_lex::{Tok, Token};
 use c_tree::{AssignOp, BinaryOp, StepOp, UnaryOp};
-
-impl Found<'_> {
-    /// The refusal of what stands behind the expression.
-    pub fn refusal(self) -> ParseErr
-        ensures { IsNotC result }
-    {
-        self.rest.refusal()
-    }
-}
 
 impl<'a> Rest<'a> {
     /// The line of the first token, and 0 where none is left.

@@ -6,6 +6,7 @@
 
 mod brackets;
 mod error;
+mod found;
 mod front;
 mod nodes;
 mod places;

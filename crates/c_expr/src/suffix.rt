@@ -4,6 +4,7 @@ ghost use Rattle.std.specs.Option.{option_map};
 ghost use Rattle.c_expr.specs.Shown.{left};
 ghost use Rattle.c_expr.specs.Suffix.{begun_of, suffix_at};
 
+use crate::nodes::Selector;
 use crate::places::{ARROW, DOT, OPEN_ROUND, OPEN_SQUARE};
 use crate::rest::Rest;
 use c_tree::StepOp;
@@ -15,10 +16,8 @@ pub enum Suffix<'a> {
     Call(Rest<'a>),
     /// `[`
     Index(Rest<'a>),
-    /// `.`
-    Member(Rest<'a>),
-    /// `->`
-    Arrow(Rest<'a>),
+    /// `.` or `->`
+    Select(Selector, Rest<'a>),
     /// `++` or `--`
     Step(StepOp, Rest<'a>),
 }
@@ -34,10 +33,10 @@ pub fn suffix_at<'a>(rest: Rest<'a>) -> Option<Suffix<'a>>
         return Some(Suffix::Index(after));
     }
     if let Some(after) = rest.eat(DOT) {
-        return Some(Suffix::Member(after));
+        return Some(Suffix::Select(Selector::Dot, after));
     }
     if let Some(after) = rest.eat(ARROW) {
-        return Some(Suffix::Arrow(after));
+        return Some(Suffix::Select(Selector::Arrow, after));
     }
     let (op, after) = rest.step()?;
     Some(Suffix::Step(op, after))

@@ -10,7 +10,7 @@ use Rattle.c_tree.specs.TExpr.{TArgs, no_args, more_args, type_of}
 use Rattle.c_tree.specs.Constant.{is_zero}
 use Rattle.c_tree.specs.TUnit.{TypedUnit, Program, no_unit}
 use Rattle.c_tree.specs.Library.{putchar_name, getchar_name, exit_name, main_name}
-use Rattle.c_join.specs.JoinSaid.{Saying, Declared, Common, Begun, Defined, Used, Named, Called, Subject, external, Fact, facts}
+use Rattle.c_join.specs.JoinSaid.{Saying, Declared, Common, Begun, Defined, Used, Named, Called, Subject, Fact, facts}
 use Rattle.c_join.specs.JoinTypes.{Relation, TagAt, IsWidest, TypeIn, between, agree_by, declare_alike}
 
 -- `_start`

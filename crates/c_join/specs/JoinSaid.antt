@@ -1,6 +1,6 @@
 -- What the units of a program say of external names and of functions, in textual order.
 -- It states docs/LANGUAGE.md, section Joined files.
-use Rattle.std.specs.Prelude.{ℕ, suc, List, [], ◌∷◌, ◌++◌, map, Option, Some, None, Bool, true, false, not, ◌&&◌, ◌||◌, slice_get}
+use Rattle.std.specs.Prelude.{ℕ, suc, List, [], ◌∷◌, ◌++◌, map, Option, Some, None, Bool, false, not, ◌&&◌, slice_get}
 use Rattle.std.specs.List.{flat_map, list_any}
 use Rattle.c_type.specs.Names.{Name, same_name, pick}
 use Rattle.c_type.specs.Types.{CType, fun}
@@ -8,7 +8,8 @@ use Rattle.c_tree.specs.TExpr as e
 use Rattle.c_tree.specs.TExpr.{TExpr, TArgs, Ref}
 use Rattle.c_tree.specs.TStmt as st
 use Rattle.c_tree.specs.TStmt.{Declr, Init, Inits, TStmt, TStmts, TItems, locals}
-use Rattle.c_tree.specs.TUnit as u
+use Rattle.c_tree.specs.Gathered as g
+use Rattle.c_tree.specs.Gathered.{Gathered}
 use Rattle.c_tree.specs.declared.typed_unit.Bound.TheVariants as bd
 use Rattle.c_tree.specs.TUnit.{Enumerator, Spec, Mems, Item, ParDecl, Func, TExt, TypedUnit, funcs_of}
 use Rattle.c_tree.specs.declared.typed_unit.Bound.{Bound}
@@ -67,112 +68,9 @@ abbrev pub of_call : TExpr → TArgs → List Event
 of_call (e.name t r) es = of_ref r es
 of_call _ es = []
 
--- the operand of `sizeof` counts too
-abbrev mutual
-  pub in_expr : TExpr → List Event
-  in_expr (e.name t r) = in_ref t r
-  in_expr (e.int t n) = []
-  in_expr (e.text t k) = []
-  in_expr (e.unary t op a) = in_expr a
-  in_expr (e.deref t a) = in_expr a
-  in_expr (e.address t a) = in_expr a
-  in_expr (e.step t op a) = in_expr a
-  in_expr (e.size_of a) = in_expr a
-  in_expr (e.size_of_type of) = []
-  in_expr (e.cast t a) = in_expr a
-  in_expr (e.convert t a) = in_expr a
-  in_expr (e.decay t a) = in_expr a
-  in_expr (e.designate t a) = in_expr a
-  in_expr (e.binary t op a b) = in_expr a ++ in_expr b
-  in_expr (e.both a b) = in_expr a ++ in_expr b
-  in_expr (e.either a b) = in_expr a ++ in_expr b
-  in_expr (e.comma t a b) = in_expr a ++ in_expr b
-  in_expr (e.choice t c a b) = in_expr c ++ (in_expr a ++ in_expr b)
-  in_expr (e.assign t a b) = in_expr a ++ in_expr b
-  in_expr (e.update t op at a b) = in_expr a ++ in_expr b
-  in_expr (e.index t a i) = in_expr a ++ in_expr i
-  in_expr (e.call t f es) = in_expr f ++ (of_call f es ++ in_args es)
-  in_expr (e.member t a m) = in_expr a
-  in_expr (e.arrow t a m) = in_expr a
-
-  pub in_args : TArgs → List Event
-  in_args e.no_args = []
-  in_args (e.more_args a es) = in_expr a ++ in_args es
-
--- an expression that may be left out
-abbrev pub in_option : Option TExpr → List Event
-in_option None = []
-in_option (Some a) = in_expr a
-
--- a declarator's dimensions
-abbrev pub in_declr : Declr → List Event
-in_declr d = flat_map in_expr d.dims
-
-abbrev mutual
-  pub in_init : Init → List Event
-  in_init (st.single a) = in_expr a
-  in_init (st.bytes bs) = []
-  in_init (st.group is) = in_inits is
-
-  pub in_inits : Inits → List Event
-  in_inits st.no_inits = []
-  in_inits (st.more_inits i is) = in_init i ++ in_inits is
-
--- an initialiser that may be left out
-abbrev pub in_begin : Option Init → List Event
-in_begin None = []
-in_begin (Some i) = in_init i
-
 -- a function's name
 abbrev pub of_function : Bool → Name → Whose
 of_function s x = pick s (Hidden x) (External x)
-
--- a declarator of a block; a function that isn't static is external there too
-abbrev pub in_local : st.Local → List Event
-in_local (st.auto d i) = in_declr d
-in_local (st.auto_init d i k l a) = in_declr d ++ in_expr a
-in_local (st.static_ d k i) = in_declr d ++ in_begin i
-in_local (st.extern_ d) = event (External d.name) (Declared d.ty) ∷ in_declr d
-in_local (st.function d s) = event (of_function s d.name) (Declared d.ty) ∷ in_declr d
-
-abbrev mutual
-  pub in_stmt : TStmt → List Event
-  in_stmt (st.expr k l a) = in_expr a
-  in_stmt (st.empty k l) = []
-  in_stmt (st.if_only k l a s) = in_expr a ++ in_stmt s
-  in_stmt (st.if_else k l a s t) = in_expr a ++ (in_stmt s ++ in_stmt t)
-  in_stmt (st.while_ k l a s) = in_expr a ++ in_stmt s
-  in_stmt (st.do_ k l s a) = in_stmt s ++ in_expr a
-  in_stmt (st.for_ k l a b c s) = in_option a ++ (in_option b ++ (in_option c ++ in_stmt s))
-  in_stmt (st.switch k l a is) = in_expr a ++ in_items is
-  in_stmt (st.break_ k l) = []
-  in_stmt (st.continue_ k l) = []
-  in_stmt (st.return_ k l a) = in_option a
-  in_stmt (st.block line ds ss close_line) = flat_map in_local (locals ds) ++ in_stmts ss
-
-  pub in_stmts : TStmts → List Event
-  in_stmts st.no_stmts = []
-  in_stmts (st.more_stmts s ss) = in_stmt s ++ in_stmts ss
-
-  pub in_items : TItems → List Event
-  in_items st.no_items = []
-  in_items (st.case_ a n is) = in_expr a ++ in_items is
-  in_items (st.default_ is) = in_items is
-  in_items (st.more_items s is) = in_stmt s ++ in_items is
-
--- an enumerator's expression
-abbrev pub in_enumerator : Enumerator → List Event
-in_enumerator x = in_option x.expr
-
-abbrev mutual
-  pub in_spec : Spec → List Event
-  in_spec (u.plain t) = []
-  in_spec (u.struct_body k ms) = in_mems ms
-  in_spec (u.enum_body k es) = flat_map in_enumerator es
-
-  pub in_mems : Mems → List Event
-  in_mems u.no_mems = []
-  in_mems (u.more_mems s ds ms) = in_spec s ++ (flat_map in_declr ds ++ in_mems ms)
 
 -- an external object that is declared without `extern`
 abbrev pub outside : CType → Option Init → Saying
@@ -187,28 +85,77 @@ said bd.Elsewhere x t i = event (External x) (Declared t) ∷ []
 said bd.OwnFunction x t i = event (Hidden x) (Declared t) ∷ []
 said bd.OutsideFunction x t i = event (External x) (Declared t) ∷ []
 
--- a declarator at file level
-abbrev pub in_item : Item → List Event
-in_item x = said x.bound x.declr.name x.declr.ty x.init ++ (in_declr x.declr ++ in_begin x.init)
-
--- declarations of parameters
-abbrev pub in_pars : ParDecl → List Event
-in_pars p = in_spec p.spec ++ flat_map in_declr p.declrs
-
 -- a function's own name
 abbrev pub defined : Func → Event
 defined f = event (of_function f.is_static f.name) (Defined (fun f.result) (map (λ v. v.ty) f.params))
 
--- a function: its own name, its parameters, its body
-abbrev pub in_func : Func → List Event
-in_func f = defined f ∷ (flat_map in_pars f.declared ++ (flat_map in_local (locals f.locals) ++ in_stmts f.stmts))
+-- what each part of a unit says by itself; a function of a block that isn't static is external there too
+abbrev pub sayings : Gathered Event
+sayings = record {
+  name = in_ref;
+  text = λ k. [];
+  call = of_call;
+  block_static = λ k t i. [];
+  block_extern = λ x t. event (External x) (Declared t) ∷ [];
+  block_function = λ s x t. event (of_function s x) (Declared t) ∷ [];
+  file_item = said;
+  body = λ f. defined f ∷ [];
+}
 
--- a part of a unit
+-- what each part of a unit says
+abbrev pub in_expr : TExpr → List Event
+in_expr = g.in_expr sayings
+
+abbrev pub in_args : TArgs → List Event
+in_args = g.in_args sayings
+
+abbrev pub in_option : Option TExpr → List Event
+in_option = g.in_option sayings
+
+abbrev pub in_declr : Declr → List Event
+in_declr = g.in_declr sayings
+
+abbrev pub in_init : Init → List Event
+in_init = g.in_init sayings
+
+abbrev pub in_inits : Inits → List Event
+in_inits = g.in_inits sayings
+
+abbrev pub in_begin : Option Init → List Event
+in_begin = g.in_begin sayings
+
+abbrev pub in_local : st.Local → List Event
+in_local = g.in_local sayings
+
+abbrev pub in_stmt : TStmt → List Event
+in_stmt = g.in_stmt sayings
+
+abbrev pub in_stmts : TStmts → List Event
+in_stmts = g.in_stmts sayings
+
+abbrev pub in_items : TItems → List Event
+in_items = g.in_items sayings
+
+abbrev pub in_enumerator : Enumerator → List Event
+in_enumerator = g.in_enumerator sayings
+
+abbrev pub in_spec : Spec → List Event
+in_spec = g.in_spec sayings
+
+abbrev pub in_mems : Mems → List Event
+in_mems = g.in_mems sayings
+
+abbrev pub in_item : Item → List Event
+in_item = g.in_item sayings
+
+abbrev pub in_pars : ParDecl → List Event
+in_pars = g.in_pars sayings
+
+abbrev pub in_func : Func → List Event
+in_func = g.in_func sayings
+
 abbrev pub in_ext : TExt → List Event
-in_ext (u.typedef s ds) = in_spec s ++ flat_map in_declr ds
-in_ext (u.tag_only s) = in_spec s
-in_ext (u.object s is) = in_spec s ++ flat_map in_item is
-in_ext (u.func s f) = in_spec s ++ in_func f
+in_ext = g.in_ext sayings
 
 -- a unit
 abbrev pub events : TypedUnit → List Event

@@ -1,6 +1,6 @@
 -- Which types of two files agree.
 -- It states docs/LANGUAGE.md, section Joined files.
-use Rattle.std.specs.Prelude.{◌≡◌, ◌⊎◌, ℕ, List, [], ◌∷◌, Option, Some, None, Bool, true, false, nat_eq, ◌&&◌, ◌||◌, not, slice_get}
+use Rattle.std.specs.Prelude.{◌≡◌, ◌⊎◌, ℕ, List, [], ◌∷◌, Option, Some, None, Bool, true, false, nat_eq, ◌&&◌, ◌||◌, slice_get}
 use Rattle.c_type.specs.Names.{Name, same_name, at_or}
 use Rattle.c_type.specs.Types.{CType, num, void, ptr, arr, struct, union, enum, fun, kind_code, Tag, Member}
 use Rattle.c_type.specs.declared.TagKind.{TagKind}

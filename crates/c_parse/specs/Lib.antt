@@ -3,3 +3,4 @@ pub mod ReadUnit
 pub mod Words
 pub mod Units
 pub mod Laws
+pub mod Heads

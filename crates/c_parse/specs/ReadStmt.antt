@@ -48,6 +48,10 @@ is_start (s.tag kind) = true
 is_start (s.named x) = true
 is_start s.ends = false
 
+-- a block by its parts
+abbrev pub blocked : ℕ → List LocalDecl → Stmts → ℕ → Block
+blocked l decls stmts close = record { line = l; decls = decls; stmts = stmts; close_line = close }
+
 module _ (defs : List Name) (most : ℕ) (expr_at : ℕ → List Token → Read Expr) where
   -- an expression in brackets
   abbrev pub test : List Token → Read Expr

@@ -8,6 +8,8 @@
 
 mod brackets;
 mod depth;
+mod forms;
+mod nodes;
 mod parts;
 mod places;
 mod statements;

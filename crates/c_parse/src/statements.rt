@@ -1,65 +1,55 @@
 // Statements.
-ghost use Rattle.std.specs.Prelude.{◌≡◌, ◌+◌, length};
-ghost use Rattle.c_tree.specs.TreeOf.{stmt_of, stmts_from, sw_item_of, sw_items_from, block_of};
+ghost use Rattle.std.specs.Prelude.{◌≡◌, ◌+◌, Some, length};
+ghost use Rattle.c_tree.specs.TreeStmt as t;
+ghost use Rattle.c_tree.specs.TreeOf.{block_of, expr_of, stmt_of, stmts_from, sw_item_of, sw_items_from};
+ghost use Rattle.c_expr.specs.Front as f;
 ghost use Rattle.c_decl.specs.Answers.{Gives, found, rest};
 ghost use Rattle.c_parse.specs.ReadStmt as s;
 ghost use Rattle.c_parse.specs.Words as w;
 
-use crate::parts::{locals, maybe, test};
+use crate::forms::{
+    block_end, break_stmt, case_item, continue_stmt, default_item, do_end, expression_stmt,
+    for_head, return_stmt, switch_end, switch_head,
+};
+use crate::nodes::{for_loop, if_else, if_only, while_loop};
+use crate::parts::{locals, test};
 use crate::places::{
-    BREAK, CASE, CLOSE_BRACE, CLOSE_ROUND, COLON, CONTINUE, DEFAULT, DO, ELSE, FOR, IF, OPEN_BRACE,
-    OPEN_ROUND, RETURN, SEMICOLON, SWITCH, WHILE,
+    BREAK, CASE, CLOSE_BRACE, CONTINUE, DEFAULT, DO, ELSE, FOR, IF, OPEN_BRACE, RETURN, SEMICOLON,
+    SWITCH, WHILE,
 };
 use c_decl::Reader;
 use c_expr::ParseErr;
 use c_lex::Tok;
-use c_tree::{Block, Stmt, SwItem};
-
-/// `e ;`, whose first token stands on the line.
-fn expression_stmt(r: &Reader<'_>, line: u32, at: usize) -> Result<(Stmt, usize), ParseErr>
-    ensures { Gives (found stmt_of r.now) result (w.behind r.now 0 line s.expr (rest r.now at)) }
-{
-    let (expr, behind) = r.expression(1, at)?;
-    let after = r.expect(SEMICOLON, behind)?;
-    Ok((Stmt::Expr(line, expr), after))
-}
+use c_tree::{Block, Expr, Stmt, SwItem};
 
 // In the functions below, `at` is the place behind the first token of a statement, which stands on the line.
-
-fn break_stmt(r: &Reader<'_>, line: u32, at: usize) -> Result<(Stmt, usize), ParseErr>
-    ensures { Gives (found stmt_of r.now) result (w.behind r.now 0 line s.break (rest r.now at)) }
-{
-    let after = r.expect(SEMICOLON, at)?;
-    Ok((Stmt::Break(line), after))
-}
-
-fn continue_stmt(r: &Reader<'_>, line: u32, at: usize) -> Result<(Stmt, usize), ParseErr>
-    ensures { Gives (found stmt_of r.now) result (w.behind r.now 0 line s.continue (rest r.now at)) }
-{
-    let after = r.expect(SEMICOLON, at)?;
-    Ok((Stmt::Continue(line), after))
-}
-
-fn return_stmt(r: &Reader<'_>, line: u32, at: usize) -> Result<(Stmt, usize), ParseErr>
-    ensures { Gives (found stmt_of r.now) result (w.behind r.now 0 line s.return (rest r.now at)) }
-{
-    let (value, after) = maybe(r, SEMICOLON, at)?;
-    Ok((Stmt::Return(line, value), after))
-}
 
 #[cycle(stmts)]
 fn if_stmt(r: &Reader<'_>, depth: u32, line: u32, at: usize) -> Result<(Stmt, usize), ParseErr>
     ensures { Gives (found stmt_of r.now) result (w.behind r.now depth line s.if (rest r.now at)) }
 {
     let (test, body) = test(r, at)?;
-    let (then_stmt, behind) = stmt(r, depth, body)?;
-    let Some(other) = r.eat_word(ELSE, behind) else {
-        return Ok((Stmt::If(line, test, Box::new(r.alloc, then_stmt)?), behind));
-    };
-    let (else_stmt, after) = stmt(r, depth, other)?;
-    let then_stmt = Box::new(r.alloc, then_stmt)?;
-    let else_stmt = Box::new(r.alloc, else_stmt)?;
-    Ok((Stmt::IfElse(line, test, then_stmt, else_stmt), after))
+    let (yes, behind) = stmt(r, depth, body)?;
+    match r.eat_word(ELSE, behind) {
+        Some(other) => else_stmt(r, depth, line, test, yes, other),
+        None => if_only(r, line, test, yes, behind),
+    }
+}
+
+/// What stands behind `else`.
+#[cycle(stmts)]
+fn else_stmt(
+    r: &Reader<'_>,
+    depth: u32,
+    line: u32,
+    test: Expr,
+    yes: Stmt,
+    at: usize,
+) -> Result<(Stmt, usize), ParseErr>
+    ensures { Gives (found stmt_of r.now) result (f.along (w.stmt r.now depth (rest r.now at)) (λ x. Some (t.if_else line (expr_of test) (stmt_of yes) x.0, x.1))) }
+{
+    let (other, after) = stmt(r, depth, at)?;
+    if_else(r, line, test, yes, other, after)
 }
 
 #[cycle(stmts)]
@@ -68,7 +58,7 @@ fn while_stmt(r: &Reader<'_>, depth: u32, line: u32, at: usize) -> Result<(Stmt,
 {
     let (test, body) = test(r, at)?;
     let (stmt, after) = stmt(r, depth, body)?;
-    Ok((Stmt::While(line, test, Box::new(r.alloc, stmt)?), after))
+    while_loop(r, line, test, stmt, after)
 }
 
 #[cycle(stmts)]
@@ -76,37 +66,25 @@ fn do_stmt(r: &Reader<'_>, depth: u32, line: u32, at: usize) -> Result<(Stmt, us
     ensures { Gives (found stmt_of r.now) result (w.behind r.now depth line s.do_while (rest r.now at)) }
 {
     let (stmt, behind) = stmt(r, depth, at)?;
-    let Some(brackets) = r.eat_word(WHILE, behind) else {
-        return Err(r.refusal(behind));
-    };
-    let (test, end) = test(r, brackets)?;
-    let after = r.expect(SEMICOLON, end)?;
-    let stmt = Box::new(r.alloc, stmt)?;
-    Ok((Stmt::Do(line, stmt, r.line(behind), test), after))
+    do_end(r, line, stmt, behind)
 }
 
 #[cycle(stmts)]
 fn for_stmt(r: &Reader<'_>, depth: u32, line: u32, at: usize) -> Result<(Stmt, usize), ParseErr>
     ensures { Gives (found stmt_of r.now) result (w.behind r.now depth line s.for (rest r.now at)) }
 {
-    let inside = r.expect(OPEN_ROUND, at)?;
-    let (first, second) = maybe(r, SEMICOLON, inside)?;
-    let (test, third) = maybe(r, SEMICOLON, second)?;
-    let (step, body) = maybe(r, CLOSE_ROUND, third)?;
+    let (head, body) = for_head(r, at)?;
     let (stmt, after) = stmt(r, depth, body)?;
-    let stmt = Box::new(r.alloc, stmt)?;
-    Ok((Stmt::For(line, first, test, step, stmt), after))
+    for_loop(r, line, head, stmt, after)
 }
 
 #[cycle(stmts)]
 fn switch_stmt(r: &Reader<'_>, depth: u32, line: u32, at: usize) -> Result<(Stmt, usize), ParseErr>
     ensures { Gives (found stmt_of r.now) result (w.behind r.now depth line s.switch (rest r.now at)) }
 {
-    let (value, brace) = test(r, at)?;
-    let body = r.expect(OPEN_BRACE, brace)?;
+    let (value, body) = switch_head(r, at)?;
     let (list, close) = items(r, depth, body)?;
-    let after = r.expect(CLOSE_BRACE, close)?;
-    Ok((Stmt::Switch(line, value, list), after))
+    switch_end(r, line, value, list, close)
 }
 
 /// A part of the body of a `switch`.
@@ -114,14 +92,12 @@ fn switch_stmt(r: &Reader<'_>, depth: u32, line: u32, at: usize) -> Result<(Stmt
 fn item(r: &Reader<'_>, depth: u32, at: usize) -> Result<(SwItem, usize), ParseErr>
     ensures { Gives (found sw_item_of r.now) result (w.item r.now depth (rest r.now at)) }
 {
+    let line = r.line(at);
     if let Some(value) = r.eat_word(CASE, at) {
-        let (expr, behind) = r.expression(1, value)?;
-        let after = r.expect(COLON, behind)?;
-        return Ok((SwItem::Case(r.line(at), expr), after));
+        return case_item(r, line, value);
     }
     if let Some(behind) = r.eat_word(DEFAULT, at) {
-        let after = r.expect(COLON, behind)?;
-        return Ok((SwItem::Default(r.line(at)), after));
+        return default_item(r, line, behind);
     }
     let (stmt, after) = stmt(r, depth, at)?;
     Ok((SwItem::Stmt(stmt), after))
@@ -174,14 +150,7 @@ pub fn block(r: &Reader<'_>, depth: u32, line: u32, at: usize) -> Result<(Block,
 {
     let (decls, behind) = locals(r, at)?;
     let (stmts, close) = stmts(r, depth, behind)?;
-    let after = r.expect(CLOSE_BRACE, close)?;
-    let block = Block {
-        line,
-        decls,
-        stmts,
-        close_line: r.line(close),
-    };
-    Ok((block, after))
+    block_end(r, line, decls, stmts, close)
 }
 
 #[cycle(stmts)]

@@ -1,7 +1,7 @@
 // Units.
 ghost use Rattle.std.specs.Prelude.{◌≡◌, ◌+◌, ℕ, [], length, map, drop, Some, IfOk};
 ghost use Rattle.c_tree.specs.TreeUnit as tree;
-ghost use Rattle.c_tree.specs.TreeOf.{ext_of, unit_of};
+ghost use Rattle.c_tree.specs.TreeOf.{block_of, ext_of, unit_of};
 ghost use Rattle.c_grammar.specs.WrittenUnit.{with_typedefs};
 ghost use Rattle.c_grammar.specs.Reads.{most, ReadsTokens, AreShallow};
 ghost use Rattle.c_lex.specs.Shown.{tokens_of};
@@ -11,7 +11,9 @@ ghost use Rattle.c_decl.specs.FoundAt.{names_behind};
 ghost use Rattle.c_decl.specs.HeadOf.{head_of, outside_of};
 ghost use Rattle.c_decl.specs.Expression.{expression};
 ghost use Rattle.c_decl.specs.Answers.{Gives, found, rest};
+ghost use Rattle.c_expr.specs.Front as f;
 ghost use Rattle.c_parse.specs.ReadUnit as q;
+ghost use Rattle.c_parse.specs.Words as w;
 ghost use Rattle.c_parse.specs.Units as u;
 ghost use Rattle.c_parse.specs.Units.{IfTooDeep, deep_line as deep_line_lem};
 
@@ -22,7 +24,7 @@ use crate::statements::block;
 use c_decl::{FuncHead, Head, MAX_DEPTH, Reader, external};
 use c_expr::{ParseErr, Typedefs};
 use c_lex::Tokens;
-use c_tree::{Ext, Unit};
+use c_tree::{Block, Ext, Unit};
 use std::alloc::Global;
 
 /// The line of the first token at which more brackets are open than the greatest number.
@@ -53,12 +55,19 @@ fn last_line(t: &Tokens) -> u32 {
     }
 }
 
+/// The block of a function.
+fn function_body(r: &Reader<'_>, at: usize) -> Result<(Block, usize), ParseErr>
+    ensures { Gives (found block_of r.now) result (f.along (f.eat OPEN_BRACE (rest r.now at)) (λ a. w.block r.now most (f.line_at (rest r.now at)) a)) }
+{
+    let inside = r.expect(OPEN_BRACE, at)?;
+    block(r, MAX_DEPTH, r.line(at), inside)
+}
+
 /// A function behind its head, up to and with its closing brace.
 fn function(r: &Reader<'_>, head: FuncHead, at: usize) -> Result<(Ext, usize), ParseErr>
     ensures { Gives (found ext_of r.now) result (u.function r.now (head_of head) (rest r.now at)) }
 {
-    let inside = r.expect(OPEN_BRACE, at)?;
-    let (body, after) = block(r, MAX_DEPTH, r.line(at), inside)?;
+    let (body, after) = function_body(r, at)?;
     let function = Ext::Func(head.line, head.specs, head.declr, head.params, body);
     Ok((function, after))
 }

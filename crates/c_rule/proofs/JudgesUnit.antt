@@ -25,6 +25,7 @@ use Rattle.c_rule.specs.Judging.{Behind, judged_by, judged_declr, judged_begin, 
 use Rattle.c_rule.specs.JudgingUnit as j
 use Rattle.c_rule.proofs.Answers.{Answer, is_a, fails_a, rule_a, onward_a, provided_a}
 use Rattle.c_rule.proofs.Judges.{by_a, declr_a, begin_a, has_init, no_init, decls_a, stmts_a}
+use Rattle.std.proofs.lemmas.Bool.{not-true, not-false}
 
 -- tags
 
@@ -51,19 +52,11 @@ IsMember c base d y = IsDeclr c None base d y × (is_function y.ty ≡ false) ×
 abbrev MemberFails : Env → CType → ud.Declr → ℕ → Type 0
 MemberFails c base d n = DeclrFails c None base d n ⊎ ((y : Declr) × IsDeclr c None base d y × (((n ≡ 7) × (is_function y.ty ≡ true)) ⊎ IsUnsized c y.ty n))
 
-not_true : (b : Bool) → not b ≡ true → b ≡ false
-not_true true q = cc
-not_true false q = refl
-
-not_false : (b : Bool) → not b ≡ false → b ≡ true
-not_false true q = refl
-not_false false q = cc
-
 member_a : (c : Env) (base : CType) (d : ud.Declr) → Answer (IsMember c base d) (MemberFails c base d) (j.judged_member c base d)
 member_a c base d =
     onward_a (judged_declr c None base d) _ (declr_a c None base d) (λ n g. inl g) (λ y h.
-    provided_a 7 (not (is_function y.ty)) _ (λ q. inr (y, h, inl (refl, not_false (is_function y.ty) q))) (λ q.
-    provided_a 3 (is_sized (known c) y.ty) _ (λ z. inr (y, h, inr (refl, z))) (λ z. is_a _ (h, not_true (is_function y.ty) q, z))))
+    provided_a 7 (not (is_function y.ty)) _ (λ q. inr (y, h, inl (refl, not-false (is_function y.ty) q))) (λ q.
+    provided_a 3 (is_sized (known c) y.ty) _ (λ z. inr (y, h, inr (refl, z))) (λ z. is_a _ (h, not-true (is_function y.ty) q, z))))
 
 members_a : (c : Env) (base : CType) (ds : List ud.Declr) → Answer (λ z. AreMembers c base ds z.tree z.env) (f.MembersFail c base ds) (j.judged_members c base ds)
 members_a c base [] = is_a _ (refl, refl)
@@ -171,7 +164,7 @@ parameter_a : (c : Env) (xs : List Name) (base : CType) (d : ud.Declr) → Answe
 parameter_a c xs base d =
     onward_a (judged_declr c (Some 0) base d) _ (declr_a c (Some 0) base d) (λ n g. inl g) (λ y h.
     provided_a 8 (is_listed y.name xs) _ (λ q. inr (y, h, refl, inl q)) (λ q.
-    provided_a 8 (not (is_structure y.ty)) _ (λ z. inr (y, h, refl, inr (not_false (is_structure y.ty) z))) (λ z. is_a _ (h, q, not_true (is_structure y.ty) z))))
+    provided_a 8 (not (is_structure y.ty)) _ (λ z. inr (y, h, refl, inr (not-false (is_structure y.ty) z))) (λ z. is_a _ (h, q, not-true (is_structure y.ty) z))))
 
 parameters_a : (c : Env) (xs : List Name) (base : CType) (ds : List ud.Declr) → Answer (λ z. AreParameters c xs base ds z.tree z.env) (f.ParametersFail c xs base ds) (j.judged_parameters c xs base ds)
 parameters_a c xs base [] = is_a _ (refl, refl)

@@ -2,7 +2,7 @@
 -- It states docs/LANGUAGE.md, section Evaluation.
 use Rattle.std.specs.Prelude.{ℕ, ◌+◌, List, [], ◌∷◌, length, Option, Some, None}
 use Rattle.c_type.specs.Names.{Name, pick, at_or, same_name}
-use Rattle.c_type.specs.Types.{CType, num, void, ptr, arr, struct, union, enum, fun, Member, Tag}
+use Rattle.c_type.specs.Types.{CType, num, void, ptr, arr, struct, union, enum, fun, Tag}
 use Rattle.c_type.specs.Sizes.{size, no_tag, no_member}
 use Rattle.c_type.specs.Cells.{Cell, cells}
 use Rattle.c_tree.specs.TExpr.{Ref, Local, Param, Static, Ext, Func, Outer, Const}

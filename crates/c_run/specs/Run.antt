@@ -2,7 +2,7 @@
 -- It states docs/LANGUAGE.md, section Evaluation.
 use Rattle.std.specs.Prelude.{ℕ, zero, suc, ◌+◌, ◌%◌, List, [], ◌∷◌, Option, Some, None}
 use Rattle.c_type.specs.declared.Kind.TheVariants as kinds
-use Rattle.c_type.specs.Names.{Name, at_or}
+use Rattle.c_type.specs.Names.{at_or}
 use Rattle.c_type.specs.Types.{CType, num, arr, struct, Member}
 use Rattle.c_type.specs.Sizes.{size, no_tag}
 use Rattle.c_type.specs.Kinds as k

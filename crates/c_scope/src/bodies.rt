@@ -5,7 +5,7 @@ ghost use Rattle.indexmap.specs.IndexMap.{get_by};
 ghost use Rattle.c_rule.specs.RuleScope.{body_from};
 ghost use Rattle.c_scope.specs.Entries.{body_of};
 
-use crate::first::insert_first;
+use crate::first::{insert_first, next_number};
 use indexmap::IndexMap;
 use num_le::Name;
 use std::alloc::{AllocError, Global};
@@ -45,22 +45,20 @@ impl Bodies {
     fn add_own(&mut self, name: Name) -> Result<(), AllocError>
         ensures added { OnOk result (bodies_of self.new ≡ bodies_of self.old ++ record { name = name; is_static = true } ∷ []) }
     {
-        let number = u32::try_from(self.list.len()).map_err(|_| AllocError)?;
-        self.list.reserve(1)?;
+        let number = next_number(&mut self.list)?;
         insert_first(&mut self.own, name.as_slice(), number)?;
         let is_static = true;
-        self.list.push(Body { name, is_static }).unwrap();
+        self.list.push_reserved(Body { name, is_static });
         Ok(())
     }
 
     fn add_outside(&mut self, name: Name) -> Result<(), AllocError>
         ensures added { OnOk result (bodies_of self.new ≡ bodies_of self.old ++ record { name = name; is_static = false } ∷ []) }
     {
-        let number = u32::try_from(self.list.len()).map_err(|_| AllocError)?;
-        self.list.reserve(1)?;
+        let number = next_number(&mut self.list)?;
         insert_first(&mut self.outside, name.as_slice(), number)?;
         let is_static = false;
-        self.list.push(Body { name, is_static }).unwrap();
+        self.list.push_reserved(Body { name, is_static });
         Ok(())
     }
 

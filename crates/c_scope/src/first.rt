@@ -1,5 +1,5 @@
 // The first value of each name.
-ghost use Rattle.std.specs.Prelude.{◌≡◌, List, ℕ, None, OnErr, OnOk, Some};
+ghost use Rattle.std.specs.Prelude.{◌≡◌, ◌<◌, List, ℕ, None, IfOk, OnErr, OnOk, Some, length, vec_len, vec_capacity};
 ghost use Rattle.std.specs.Str.{bytes_eq};
 ghost use Rattle.indexmap.specs.IndexMap.{get_by};
 ghost use Rattle.c_type.specs.Names.{or_else, pick};
@@ -22,4 +22,15 @@ pub fn insert_first<V: Drop>(
     let key = name.to_vec(*index.allocator())?;
     index.insert(key, value)?;
     Ok(())
+}
+
+/// Makes room for one more behind a list, and gives its number.
+pub fn next_number<T: Drop>(list: &mut Vec<T>) -> Result<u32, AllocError>
+    ensures number { IfOk result (λ n. n ≡ length list.old.items) }
+    ensures items { list.new.items ≡ list.old.items }
+    ensures room { OnOk result (vec_len list.new < vec_capacity list.new) }
+{
+    let number = u32::try_from(list.len()).map_err(|_| AllocError)?;
+    list.reserve(1)?;
+    Ok(number)
 }

@@ -11,7 +11,7 @@ ghost use Rattle.c_scope.specs.Places.{head_from};
 ghost use Rattle.c_scope.specs.Says.{Says};
 
 use crate::error::TypeErr;
-use crate::first::insert_first;
+use crate::first::{insert_first, next_number};
 use crate::names::first_again;
 use c_type::{CType, TagId, TagKind};
 use indexmap::IndexMap;
@@ -76,10 +76,9 @@ impl Heads {
     pub fn add(&mut self, name: Name, kind: TagKind, line: u32) -> Result<(), AllocError>
         ensures added { OnOk result (heads_of self.new ≡ heads_of self.old ++ record { name = name; kind = kind } ∷ []) }
     {
-        let number = u32::try_from(self.list.len()).map_err(|_| AllocError)?;
-        self.list.reserve(1)?;
+        let number = next_number(&mut self.list)?;
         insert_first(&mut self.index, name.as_slice(), (number, kind))?;
-        self.list.push(Head { name, kind, line }).unwrap();
+        self.list.push_reserved(Head { name, kind, line });
         Ok(())
     }
 

@@ -1,8 +1,9 @@
 // One scope: what the names that it declares mean.
-ghost use Rattle.std.specs.Prelude.{◌≡◌, ◌∷◌, [], List, ℕ, OnOk};
+ghost use Rattle.std.specs.Prelude.{◌≡◌, ◌<◌, ◌∷◌, [], List, ℕ, OnErr, OnOk, Some, length, vec_len, vec_capacity};
 ghost use Rattle.std.specs.Option.{option_map};
 ghost use Rattle.std.specs.Str.{bytes_eq};
 ghost use Rattle.indexmap.specs.IndexMap.{get_by};
+ghost use Rattle.c_type.specs.Names.{pick};
 ghost use Rattle.c_rule.specs.RuleScope as r;
 ghost use Rattle.c_rule.specs.RuleStmts.{is_free};
 ghost use Rattle.c_scope.specs.Entries.{meaning_of, entries_of};
@@ -43,6 +44,24 @@ pub struct Scope {
     ghost indexed: { (x : List ℕ) → get_by (λ key. bytes_eq x key.items) index ≡ place_of x (entries_of entries.items) },
 }
 
+/// Makes room for one more entry, and lets its name lead there.
+fn lead_to_next(
+    entries: &mut Vec<Entry>,
+    index: &mut IndexMap<Vec<u8>, usize>,
+    name: &[u8],
+) -> Result<(), AllocError>
+    ensures items { entries.new.items ≡ entries.old.items }
+    ensures room { OnOk result (vec_len entries.new < vec_capacity entries.new) }
+    ensures led { OnOk result ((x : List ℕ) → get_by (λ key. bytes_eq x key.items) index.new ≡ pick (bytes_eq x name.now) (Some (length entries.old.items)) (get_by (λ key. bytes_eq x key.items) index.old)) }
+    ensures kept { OnErr result ((x : List ℕ) → get_by (λ key. bytes_eq x key.items) index.new ≡ get_by (λ key. bytes_eq x key.items) index.old) }
+{
+    let place = entries.len();
+    entries.reserve(1)?;
+    let key = name.to_vec(*index.allocator())?;
+    index.insert(key, place)?;
+    Ok(())
+}
+
 impl Scope {
     ghost use Rattle.c_scope.specs.EnvOf.{scope_of};
 
@@ -76,11 +95,8 @@ impl Scope {
     pub fn add(&mut self, name: Name, meaning: Meaning) -> Result<(), AllocError>
         ensures added { OnOk result (scope_of self.new ≡ record { name = name; meaning = meaning_of meaning } ∷ scope_of self.old) }
     {
-        let key = name.as_slice().to_vec(*self.index.allocator())?;
-        let place = self.entries.len();
-        self.entries.reserve(1)?;
-        self.index.insert(key, place)?;
-        self.entries.push(Entry { name, meaning }).unwrap();
+        lead_to_next(&mut self.entries, &mut self.index, name.as_slice())?;
+        self.entries.push_reserved(Entry { name, meaning });
         Ok(())
     }
 }

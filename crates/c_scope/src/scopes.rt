@@ -7,6 +7,7 @@ ghost use Rattle.c_type.specs.Of as o;
 ghost use Rattle.c_tree.specs.TreeOf.{unit_of};
 ghost use Rattle.c_tree.specs.TypedOf.{ref_of, var_of};
 ghost use Rattle.c_rule.specs.RuleNames.{tag_names};
+ghost use Rattle.c_tree.specs.TExpr as e;
 ghost use Rattle.c_rule.specs.RuleScope as r;
 ghost use Rattle.c_rule.specs.RuleStmts as s;
 ghost use Rattle.c_rule.specs.RuleTags as t;
@@ -49,6 +50,21 @@ pub struct Scopes {
     bodies: Bodies,
 }
 
+/// Declares the parameter with this number.
+fn add_parameter(
+    alloc: Global,
+    scope: &mut Scope,
+    at: usize,
+    param: &TParam,
+) -> Result<(), AllocError>
+    ensures added { OnOk result (scope_of scope.new ≡ record { name = (var_of param.now).name; meaning = r.Thing (e.Param at) (var_of param.now).ty } ∷ scope_of scope.old) }
+{
+    let number = u32::try_from(at).map_err(|_| AllocError)?;
+    let ty = copy(alloc, &param.ty)?;
+    let name = copy_name(alloc, &param.name)?;
+    scope.add(name, Meaning::Thing(Ref::Param(number), ty))
+}
+
 /// The scope of a function's parameters.
 fn parameter_scope(alloc: Global, params: &[TParam]) -> Result<Scope, AllocError>
     ensures value { IfOk result (λ x. scope_of x ≡ u.parameter_scope 0 (map var_of params.now)) }
@@ -57,12 +73,17 @@ fn parameter_scope(alloc: Global, params: &[TParam]) -> Result<Scope, AllocError
     let mut left = params.len();
     while left > 0 {
         left -= 1;
-        let param = &params[left];
-        let number = u32::try_from(left).map_err(|_| AllocError)?;
-        let name = copy_name(alloc, &param.name)?;
-        let ty = copy(alloc, &param.ty)?;
-        scope.add(name, Meaning::Thing(Ref::Param(number), ty))?;
+        add_parameter(alloc, &mut scope, left, &params[left])?;
     }
+    Ok(scope)
+}
+
+/// A scope that declares one name.
+fn scope_with(alloc: Global, name: Name, meaning: Meaning) -> Result<Scope, AllocError>
+    ensures value { IfOk result (λ x. scope_of x ≡ record { name = name; meaning = meaning_of meaning } ∷ []) }
+{
+    let mut scope = Scope::new(alloc);
+    scope.add(name, meaning)?;
     Ok(scope)
 }
 
@@ -232,21 +253,37 @@ impl Scopes {
         self.statics = count;
     }
 
-    /// Declares a name in the innermost block, in which it is new.
-    pub fn declare_here(&mut self, line: u32, name: Name, meaning: Meaning) -> Result<(), TypeErr>
-        ensures judged { Says (λ _. env_of self.new) (declared_here (env_of self.old) name (meaning_of meaning)) result }
+    /// Whether the innermost block does not declare the name.
+    fn is_free_here(&self, name: &[u8]) -> bool
+        ensures value { result ≡ s.is_free name.now (s.innermost (env_of self.now).blocks) }
+    {
+        match self.blocks.last() {
+            Some(scope) => scope.is_free(name),
+            None => true,
+        }
+    }
+
+    /// Adds a name to the innermost block.
+    fn add_here(&mut self, name: Name, meaning: Meaning) -> Result<(), AllocError>
+        ensures added { OnOk result (env_of self.new ≡ record (env_of self.old) { blocks = s.added (record { name = name; meaning = meaning_of meaning }) (env_of self.old).blocks }) }
     {
         if self.blocks.is_empty() {
-            let mut scope = Scope::new(self.alloc);
-            scope.add(name, meaning)?;
-            self.blocks.push(scope)?;
+            self.blocks.push(scope_with(self.alloc, name, meaning)?)?;
             return Ok(());
         }
         let innermost = self.blocks.len() - 1;
-        if !self.blocks[innermost].is_free(name.as_slice()) {
+        self.blocks[innermost].add(name, meaning)
+    }
+
+    /// Declares a name in the innermost block, in which it is new.
+    #[tactic(auto, using(crate::proofs::Redeclared::free_here, crate::proofs::Redeclared::taken_here), unfolding(crate::specs::EnvOf::env_of))]
+    pub fn declare_here(&mut self, line: u32, name: Name, meaning: Meaning) -> Result<(), TypeErr>
+        ensures judged { Says (λ _. env_of self.new) (declared_here (env_of self.old) name (meaning_of meaning)) result }
+    {
+        if !self.is_free_here(name.as_slice()) {
             return Err(TypeErr::Rule(1, line));
         }
-        self.blocks[innermost].add(name, meaning)?;
+        self.add_here(name, meaning)?;
         Ok(())
     }
 
@@ -258,8 +295,18 @@ impl Scopes {
         Ok(())
     }
 
+    /// What a name means in the file that is declared there, perhaps once more, or none where the declarations differ.
+    fn combined(&self, name: &[u8], meaning: Meaning) -> Result<Option<Meaning>, AllocError>
+        ensures value { IfOk result (λ x. option_map meaning_of x ≡ u.combined (r.in_scope name.now (env_of self.now).file) (meaning_of meaning)) }
+    {
+        match self.file.meaning(name) {
+            Some(old) => again(self.alloc, old, &meaning),
+            None => Ok(Some(meaning)),
+        }
+    }
+
     /// Declares an object or a function in the file, perhaps once more.
-    #[tactic(auto, using(crate::proofs::Redeclared::first_declared, crate::proofs::Redeclared::again_declared, crate::proofs::Redeclared::again_refused), unfolding(crate::specs::EnvOf::env_of))]
+    #[tactic(auto, using(crate::proofs::Redeclared::combined_declared, crate::proofs::Redeclared::combined_refused), unfolding(crate::specs::EnvOf::env_of))]
     pub fn declare_in_file(
         &mut self,
         line: u32,
@@ -268,13 +315,10 @@ impl Scopes {
     ) -> Result<(), TypeErr>
         ensures judged { Says (λ _. env_of self.new) (declared_in_file (env_of self.old) name (meaning_of meaning)) result }
     {
-        let Some(old) = self.in_file(name.as_slice()) else {
-            return Ok(self.add_in_file(name, meaning)?);
-        };
-        let Some(meaning) = again(self.alloc, old, &meaning)? else {
-            return Err(TypeErr::Rule(1, line));
-        };
-        Ok(self.add_in_file(name, meaning)?)
+        match self.combined(name.as_slice(), meaning)? {
+            Some(meaning) => Ok(self.add_in_file(name, meaning)?),
+            None => Err(TypeErr::Rule(1, line)),
+        }
     }
 
     /// Enters a block.

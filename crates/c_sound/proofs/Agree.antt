@@ -1,7 +1,7 @@
 -- Types that no clash lets differ are built alike, and a function is like a function alone.
 use Rattle.std.proofs.Common.{◌≡◌, ℕ, List, [], ◌∷◌, Bool, true, false, not, ◌&&◌, nat_eq, ◌⊎◌, inl, inr, refl, sym, ap, ◌∙◌, subst}
 use Rattle.std.specs.List.{list_any}
-use Rattle.std.proofs.lemmas.Bool.{eqb-true, or_parts}
+use Rattle.std.proofs.lemmas.Bool.{eqb-true, or_parts, not-false}
 use Rattle.c_type.specs.declared.Kind.TheVariants.{Int}
 use Rattle.c_type.specs.Types.{CType, num, void, ptr, arr, struct, union, enum, fun, kind_code, is_integer}
 use Rattle.c_rule.specs.RuleTypes.{is_function}
@@ -51,12 +51,8 @@ declared_like : (r : ℕ → ℕ → Bool) (a b : CType) → declare_alike r a b
 declared_like r (arr n a) (arr m b) h = agreed_like r a b (second_true (same_dimension n m) (agree_by r a b) h)
 declared_like r a b h = agreed_like r a b h
 
-not_false : (b : Bool) → not b ≡ false → b ≡ true
-not_false true h = refl
-not_false false h = cc
-
 not_differ : (r : Relation) (a b : TypeIn) → differ r a b ≡ false → like a.ty b.ty ≡ true
-not_differ r a b h = declared_like (between r a.unit b.unit) a.ty b.ty (not_false (declare_alike (between r a.unit b.unit) a.ty b.ty) h)
+not_differ r a b h = declared_like (between r a.unit b.unit) a.ty b.ty (not-false (declare_alike (between r a.unit b.unit) a.ty b.ty) h)
 
 -- two types of one name
 pub none_differ : (r : Relation) (ts : List TypeIn) (a b : TypeIn) → some_differ r ts ≡ false → IsIn a ts → IsIn b ts → like a.ty b.ty ≡ true

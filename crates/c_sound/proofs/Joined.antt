@@ -2,7 +2,7 @@
 use Rattle.std.proofs.Common.{◌≡◌, ℕ, zero, suc, List, [], ◌∷◌, length, Bool, true, false, ◌||◌, nat_eq, Option, Some, None, inl, inr, refl, sym, ap, subst, true≢false}
 use Rattle.std.specs.Prelude.{not}
 use Rattle.std.specs.List.{list_any}
-use Rattle.std.proofs.lemmas.Bool.{and_parts, eqb-true}
+use Rattle.std.proofs.lemmas.Bool.{and_parts, eqb-true, not-true}
 use Rattle.std.proofs.lemmas.Slice.Eq.{bytes_eq-Decides}
 use Rattle.c_type.specs.Names.{Name, at_or}
 use Rattle.c_type.specs.Types.{CType, Tag}
@@ -78,15 +78,11 @@ owned k (ment.Own j t i ∷ ms) h = case_of (nat_eq k j) refl h (λ g. owned k m
     case_of true g r more = (t, i, inl (ap (λ n. ment.Own n t i) (eqb-true k j g)))
     case_of false g r more = let q = more r in (q.0, q.1, inr q.2)
 
-not_true : (b : Bool) → not b ≡ true → b ≡ false
-not_true true h = cc
-not_true false h = refl
-
 -- what gives an object says so
 says_object : (s : Saying) → gives_object s ≡ true → SaysObject s
-says_object (Declared t) h = not_true (is_function t) h
-says_object (Common t) h = not_true (is_function t) h
-says_object (Begun t) h = not_true (is_function t) h
+says_object (Declared t) h = not-true (is_function t) h
+says_object (Common t) h = not-true (is_function t) h
+says_object (Begun t) h = not-true (is_function t) h
 says_object (Defined t ps) h = cc
 says_object Used h = cc
 says_object (Named t) h = cc

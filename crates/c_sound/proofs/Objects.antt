@@ -2,7 +2,7 @@
 use Rattle.std.proofs.Common.{◌≡◌, ℕ, suc, List, [], ◌∷◌, ◌++◌, Bool, true, false, ◌||◌, ◌&&◌, nat_eq, Option, Some, None, ◌⊎◌, inl, inr, refl, sym, ap, subst, true≢false}
 use Rattle.std.specs.List.{flat_map}
 use Rattle.std.proofs.lemmas.Slice.Eq.{bytes_eq-Decides}
-use Rattle.std.proofs.lemmas.Bool.{eq-eqb}
+use Rattle.std.proofs.lemmas.Bool.{eq-eqb, and_from, or_right}
 use Rattle.c_type.specs.Names.{Name, same_name, pick, at_or, or_else}
 use Rattle.c_type.specs.Types.{CType}
 use Rattle.c_run.specs.Mentions.{Mention, Text, Use, Extern, Own, Outside}
@@ -17,14 +17,10 @@ same_itself x = (bytes_eq-Decides x x).1 refl
 pub number_itself : (n : ℕ) → nat_eq n n ≡ true
 number_itself n = eq-eqb n n refl
 
-both : (a b : Bool) → a ≡ true → b ≡ true → (a && b) ≡ true
-both true b p q = q
-both false b p q = p
-
 one_origin : (o : Origin) → same_origin o o ≡ true
-one_origin (OfUnit u k) = both (nat_eq u u) (nat_eq k k) (number_itself u) (number_itself k)
+one_origin (OfUnit u k) = and_from (nat_eq u u) (nat_eq k k) (number_itself u) (number_itself k)
 one_origin (OfName x) = same_itself x
-one_origin (OfText u k) = both (nat_eq u u) (nat_eq k k) (number_itself u) (number_itself k)
+one_origin (OfText u k) = and_from (nat_eq u u) (nat_eq k k) (number_itself u) (number_itself k)
 
 -- what is among the objects has a number
 pub numbered : (n : ℕ) (xs : List Lasting) (o : Origin) → is_among xs o ≡ true → IsThere (as_static (number_in n xs o))
@@ -34,10 +30,6 @@ numbered n (x ∷ xs) o h = case_of (same_origin x.origin o) h (λ g. numbered (
     case_of : (b : Bool) → (b || is_among xs o) ≡ true → (is_among xs o ≡ true → IsThere (as_static (number_in (suc n) xs o))) → IsThere (as_static (pick b (Some n) (number_in (suc n) xs o)))
     case_of true g more = tt
     case_of false g more = more g
-
-or_true : (a b : Bool) → b ≡ true → (a || b) ≡ true
-or_true true b h = refl
-or_true false b h = h
 
 among_first : (xs ys : List Lasting) (o : Origin) → is_among xs o ≡ true → is_among (xs ++ ys) o ≡ true
 among_first [] ys o h = absurd (true≢false (sym h))
@@ -49,7 +41,7 @@ among_first (x ∷ xs) ys o h = case_of (same_origin x.origin o) h (λ g. among_
 
 among_second : (xs ys : List Lasting) (o : Origin) → is_among ys o ≡ true → is_among (xs ++ ys) o ≡ true
 among_second [] ys o h = h
-among_second (x ∷ xs) ys o h = or_true (same_origin x.origin o) (is_among (xs ++ ys) o) (among_second xs ys o h)
+among_second (x ∷ xs) ys o h = or_right (same_origin x.origin o) (is_among (xs ++ ys) o) (among_second xs ys o h)
 
 among_here : (x : Lasting) (xs : List Lasting) → is_among (x ∷ xs) x.origin ≡ true
 among_here x xs = ap (λ b. b || is_among xs x.origin) (one_origin x.origin)
@@ -133,7 +125,7 @@ text_more u xs ys f (Own k t i) h = tt
 text_more u xs ys f (Outside x t i) h = tt
 
 text_later : (u : ℕ) (x : Lasting) (xs : List Lasting) (m : Mention) → HasText u xs m → HasText u (x ∷ xs) m
-text_later u x xs m h = text_more u xs (x ∷ xs) (λ o g. or_true (same_origin x.origin o) (is_among xs o) g) m h
+text_later u x xs m h = text_more u xs (x ∷ xs) (λ o g. or_right (same_origin x.origin o) (is_among xs o) g) m h
 
 begun_has : (u : ℕ) (ts : List (List ℕ)) (ms : List Mention) (m : Mention) → IsIn m ms → HasText u (begun_in u ts ms) m
 begun_has u ts [] m h = absurd h

@@ -10,6 +10,7 @@ pub mod TStmt
 pub mod TUnit
 pub mod TypedOf
 pub mod Starts
+pub mod Gathered
 pub mod Bodies
 pub mod Library
 -- arithmetic and constants

@@ -59,7 +59,6 @@ pub enum TStep {
 }
 
 /// An expression with its type. Each implicit conversion is a node.
-#[derive(Drop)]
 pub enum TExpr {
     Name(CType, Ref),
     /// A number or a character: the 32 bits of its value.
@@ -97,4 +96,28 @@ pub enum TExpr {
     Member(CType, Box<TExpr>, u32),
     /// `->`, with the member's number in its structure.
     Arrow(CType, Box<TExpr>, u32),
+}
+
+// Written out for the trees here, dropping is proved once, and not in each crate that drops one.
+impl Drop for TExpr {
+    fn drop(self) {
+        match self {
+            TExpr::Name(_, _) | TExpr::Int(_, _) | TExpr::Text(_, _) | TExpr::SizeOfType(_) => {}
+            TExpr::SizeOf(_)
+            | TExpr::Deref(_, _)
+            | TExpr::Address(_, _)
+            | TExpr::Cast(_, _)
+            | TExpr::Convert(_, _)
+            | TExpr::Decay(_, _)
+            | TExpr::Designate(_, _) => {}
+            TExpr::Unary(_, _, _)
+            | TExpr::Step(_, _, _)
+            | TExpr::Member(_, _, _)
+            | TExpr::Arrow(_, _, _) => {}
+            TExpr::Both(_, _) | TExpr::Either(_, _) => {}
+            TExpr::Comma(_, _, _) | TExpr::Assign(_, _, _) | TExpr::Index(_, _, _) => {}
+            TExpr::Binary(_, _, _, _) | TExpr::Choice(_, _, _, _) => {}
+            TExpr::Update(_, _, _, _, _) | TExpr::Call(_, _, _) => {}
+        }
+    }
 }

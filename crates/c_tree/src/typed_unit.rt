@@ -5,23 +5,37 @@ use c_type::{CType, Tags};
 use num_le::Name;
 
 /// An enumerator: its name, the 32 bits of its value, and its expression if it has one.
-#[derive(Drop)]
 pub struct TEnumerator {
     pub name: Name,
     pub value: u32,
     pub expr: Option<TExpr>,
 }
 
+impl Drop for TEnumerator {
+    fn drop(self) {
+        let TEnumerator {
+            name: _,
+            value: _,
+            expr: _,
+        } = self;
+    }
+}
+
 /// A declaration of members.
-#[derive(Drop)]
 #[cycle(typed_specs)]
 pub struct TMembers {
     pub spec: TSpec,
     pub declrs: Vec<TDeclr>,
 }
 
+impl Drop for TMembers {
+    #[cycle(typed_specs)]
+    fn drop(self) {
+        let TMembers { spec: _, declrs: _ } = self;
+    }
+}
+
 /// The type that begins a declaration, with the tag that it defines.
-#[derive(Drop)]
 #[cycle(typed_specs)]
 pub enum TSpec {
     Plain(CType),
@@ -29,6 +43,17 @@ pub enum TSpec {
     Struct(u32, Vec<TMembers>),
     /// The body of an enumeration, with its number among the tags of the unit.
     Enum(u32, Vec<TEnumerator>),
+}
+
+impl Drop for TSpec {
+    #[cycle(typed_specs)]
+    fn drop(self) {
+        match self {
+            TSpec::Plain(_) => {}
+            TSpec::Struct(_, _) => {}
+            TSpec::Enum(_, _) => {}
+        }
+    }
 }
 
 /// What a declarator at file level is bound to.
@@ -47,18 +72,32 @@ pub enum Bound {
 }
 
 /// A declarator at file level with its initialiser.
-#[derive(Drop)]
 pub struct TItem {
     pub declr: TDeclr,
     pub bound: Bound,
     pub init: Option<TInit>,
 }
 
+impl Drop for TItem {
+    fn drop(self) {
+        let TItem {
+            declr: _,
+            bound: _,
+            init: _,
+        } = self;
+    }
+}
+
 /// A declaration of parameters.
-#[derive(Drop)]
 pub struct TParDecl {
     pub spec: TSpec,
     pub declrs: Vec<TDeclr>,
+}
+
+impl Drop for TParDecl {
+    fn drop(self) {
+        let TParDecl { spec: _, declrs: _ } = self;
+    }
 }
 
 /// A parameter of a function, by its place in the list of names.
@@ -69,7 +108,6 @@ pub struct TParam {
 }
 
 /// A function body: the numbers of its braces' starts, whose lines are the block's.
-#[derive(Drop)]
 pub struct TFunc {
     pub name: Name,
     pub is_static: bool,
@@ -81,13 +119,38 @@ pub struct TFunc {
     pub close: u32,
 }
 
+impl Drop for TFunc {
+    fn drop(self) {
+        let TFunc {
+            name: _,
+            is_static: _,
+            result: _,
+            params: _,
+            declared: _,
+            open: _,
+            body: _,
+            close: _,
+        } = self;
+    }
+}
+
 /// A part of a unit.
-#[derive(Drop)]
 pub enum TExt {
     Typedef(TSpec, Vec<TDeclr>),
     TagOnly(TSpec),
     Object(TSpec, Vec<TItem>),
     Func(TSpec, TFunc),
+}
+
+impl Drop for TExt {
+    fn drop(self) {
+        match self {
+            TExt::Typedef(_, _) => {}
+            TExt::TagOnly(_) => {}
+            TExt::Object(_, _) => {}
+            TExt::Func(_, _) => {}
+        }
+    }
 }
 
 /// A unit with each name bound and each conversion written.

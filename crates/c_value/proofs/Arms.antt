@@ -18,7 +18,7 @@ use Rattle.c_rule.specs.RuleTypes.{cast_type}
 use Rattle.c_scope.specs.declared.error.TypeErr.{TypeErr}
 use Rattle.c_rule.specs.Judging.{judged_expr}
 use Rattle.c_scope.specs.Says.{Refused, Says}
-use Rattle.c_value.specs.Boxed.{boxed}
+use Rattle.c_operator.specs.Boxed.{boxed}
 use Rattle.c_value.proofs.Outcomes.{onward_refused, one_says, two_says, second_refused, three_says, third_refused, met_on, met_none, on_ok}
 
 -- a production of one part, with its rule

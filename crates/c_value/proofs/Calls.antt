@@ -15,7 +15,7 @@ use Rattle.c_rule.specs.RuleTexts.{texts_in, texts_in_all}
 use Rattle.c_scope.specs.declared.error.TypeErr.{TypeErr}
 use Rattle.c_rule.specs.Judging.{judged_expr, judged_args}
 use Rattle.c_scope.specs.Says.{Refused, Says}
-use Rattle.c_value.specs.Boxed.{boxed}
+use Rattle.c_operator.specs.Boxed.{boxed}
 use Rattle.c_value.specs.Arguments.{name_in, judged_call}
 use Rattle.c_value.proofs.Outcomes.{onward_refused, called_other, met_on, met_none}
 

@@ -1,5 +1,4 @@
 pub mod Arms
 pub mod Bits
 pub mod Calls
-pub mod Members
 pub mod Outcomes

@@ -23,7 +23,7 @@ use Rattle.c_scope.specs.declared.error.TypeErr.TheVariants.{Rule, Memory}
 use Rattle.c_rule.specs.Judging.{judged_expr, judged_args, judged_called}
 use Rattle.c_value.specs.Arguments.{name_in, before, args_from, judged_call}
 use Rattle.c_scope.specs.Says.{Refused, Says}
-use Rattle.c_value.specs.Boxed.{boxed}
+use Rattle.c_operator.specs.Boxed.{boxed}
 
 -- what a rule says of a part that was judged
 pub onward_says : {T A B : Type 0} (view : T → A) (j : Judged B) (f : B → Judged A) (r : Result T TypeErr) (x : B) → j ≡ Is x → Says view (f x) r → Says view (onward j f) r

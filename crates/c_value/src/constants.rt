@@ -5,11 +5,11 @@ ghost use Rattle.c_rule.specs.RuleDecls as r;
 ghost use Rattle.c_constant.specs.Views.{told};
 ghost use Rattle.c_scope.specs.Closed.{closed};
 ghost use Rattle.c_scope.specs.Says.{Says};
-ghost use Rattle.c_value.specs.Boxed.{boxed};
+ghost use Rattle.c_operator.specs.Boxed.{boxed};
 ghost use Rattle.c_value.specs.Numbers.{number_of};
 
-use crate::values::{taken, used};
 use c_constant::{ExprType, constant, is_known, type_of};
+use c_operator::values::{taken, used};
 use c_scope::TypeErr;
 use c_tree::TExpr;
 use c_type::{CType, Tags};

@@ -12,17 +12,17 @@ ghost use Rattle.c_value.specs.Arguments.{args_from, judged_call, name_in};
 ghost use Rattle.c_scope.specs.EnvOf.{env_of};
 ghost use Rattle.c_rule.specs.Judging.{judged_expr};
 ghost use Rattle.c_scope.specs.Says.{Says};
-ghost use Rattle.c_value.specs.Boxed.{boxed};
+ghost use Rattle.c_operator.specs.Boxed.{boxed};
 
 use crate::here::{
     assigned, cast_to, chosen, indexed, member, member_behind, of_one, of_two, sized, sized_by,
     stepped,
 };
 use crate::names::{called_name, character, named, number};
-use crate::operators::comma;
-use crate::postfix::{called, result_of};
-use crate::typed::type_of;
-use crate::values::{node, scalar};
+use c_operator::operators::comma;
+use c_operator::postfix::{called, result_of};
+use c_operator::typed::type_of;
+use c_operator::values::{node, scalar};
 use c_scope::{Scopes, TypeErr, cast_type};
 use c_tree::{Expr, TExpr};
 use c_type::{CType, Kind};

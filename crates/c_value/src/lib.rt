@@ -4,19 +4,11 @@
 //! of a declaration or a statement, by the rule of what takes it.
 #![tactic(auto)]
 
-mod assignments;
-mod by_operator;
-mod choice;
 mod constants;
 mod expressions;
 mod here;
 mod names;
-mod operators;
 mod parts;
-mod postfix;
-mod typed;
-mod unary;
-mod values;
 
 pub use constants::Number;
 pub use expressions::expr;

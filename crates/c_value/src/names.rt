@@ -8,10 +8,10 @@ ghost use Rattle.c_rule.specs.RuleScope.{Is, meaning_of as meaning_rule};
 ghost use Rattle.c_scope.specs.Entries.{meaning_of};
 ghost use Rattle.c_scope.specs.EnvOf.{env_of};
 ghost use Rattle.c_scope.specs.Says.{Says};
-ghost use Rattle.c_value.specs.Boxed.{boxed};
+ghost use Rattle.c_operator.specs.Boxed.{boxed};
 
-use crate::values::node;
 use c_constant::convert;
+use c_operator::values::node;
 use c_scope::{Meaning, Scopes, TypeErr, copy, copy_ref};
 use c_tree::{Ref, TExpr};
 use c_type::{CType, Kind};

@@ -7,13 +7,13 @@ ghost use Rattle.c_rule.specs.RuleScope.{past, past_option};
 ghost use Rattle.c_rule.specs.RuleValues as v;
 ghost use Rattle.c_scope.specs.EnvOf.{env_of};
 ghost use Rattle.c_rule.specs.Judging.{judged_by, judged_option};
-ghost use Rattle.c_value.specs.Boxed.{boxed, boxed_option};
+ghost use Rattle.c_operator.specs.Boxed.{boxed, boxed_option};
 ghost use Rattle.c_value.specs.Numbers.{number_of};
 ghost use Rattle.c_scope.specs.Says.{Says};
 
 use crate::constants::{Number, constant_of, dimension_of, first_value};
 use crate::expressions::expr;
-use crate::values::{integer, scalar, used, value_for};
+use c_operator::values::{integer, scalar, used, value_for};
 use c_scope::{Scopes, TypeErr};
 use c_tree::{Expr, TExpr};
 use c_type::CType;

@@ -2,7 +2,7 @@
 //
 // Each tag begins with a number that it shares with all tags of its name. A class from whose first tag some others differ
 // is split in two, until none is left: then tags with one number are alike up to these numbers.
-ghost use Rattle.std.specs.Prelude.{◌≡◌, ◌+◌, length, IfOk, OnOk, map};
+ghost use Rattle.std.specs.Prelude.{◌≡◌, ◌+◌, length, IfOk, MatchOption, OnOk, map};
 ghost use Rattle.std.specs.Option.{option_map};
 ghost use Rattle.c_type.specs.Of.{tag_of as tag_lem, tags_of};
 ghost use Rattle.c_join.specs.JoinTypes as t;
@@ -291,6 +291,26 @@ fn first_classes(
     Ok(rows)
 }
 
+/// The numbers behind one more round, which splits a class, or none where all tags stay in their classes.
+fn round(
+    alloc: Global,
+    units: &[TypedUnit],
+    list: &[Vec<u32>],
+    next: &mut u32,
+) -> Result<Option<Vec<Vec<u32>>>, AllocError>
+    requires coarse { IsCoarse (map unit_of units.now) (rows_of list.now) }
+    ensures round { IfOk result (λ x. MatchOption x (IsNumbered (map unit_of units.now) (rows_of list.now)) (λ rows. IsCoarse (map unit_of units.now) (rows_of rows.items))) }
+{
+    let classes = Classes { list };
+    let leaders = leaders(alloc, classes)?;
+    if all_stay(units, classes, &leaders) {
+        return Ok(None);
+    }
+    let others = others(alloc, units, classes, &leaders, next)?;
+    let rows = renumbered_rows(alloc, units, classes, &leaders, &others)?;
+    Ok(Some(rows))
+}
+
 /// The numbers of the tags of each unit. Two tags have one number exactly where they agree.
 ///
 /// Each round splits a class, so there are fewer rounds than tags. A round takes time in proportion to the members of all
@@ -301,13 +321,10 @@ pub fn classes(alloc: Global, units: &[TypedUnit]) -> Result<Vec<Vec<u32>>, Allo
     let mut next = 0;
     let mut list = first_classes(alloc, units, &mut next)?;
     for _ in 0..u64::MAX {
-        let classes = Classes { list: &list };
-        let leaders = leaders(alloc, classes)?;
-        if all_stay(units, classes, &leaders) {
-            return Ok(list);
+        match round(alloc, units, &list, &mut next)? {
+            Some(rows) => list = rows,
+            None => return Ok(list),
         }
-        let others = others(alloc, units, classes, &leaders, &mut next)?;
-        list = renumbered_rows(alloc, units, classes, &leaders, &others)?;
     }
     Err(AllocError)
 }

@@ -132,6 +132,26 @@ fn add_said<'a>(
     Ok(())
 }
 
+/// The functions of a unit, which says this.
+fn functions_in<'a>(
+    alloc: Global,
+    unit: &'a TypedUnit,
+    events: &[Event<'a>],
+) -> Result<Functions<'a>, AllocError>
+    ensures bodies { IfOk result (λ f. bodies_of f.bodies.items ≡ funcs_of (unit_of unit.now).exts) }
+    ensures declared { IfOk result (λ f. (x : List ℕ) → has_name f.declared.keys x ≡ list_any (s.declares_static x) (events_of events.now)) }
+    ensures defined { IfOk result (λ f. (x : List ℕ) → has_name f.defined.keys x ≡ list_any (s.defines_static x) (events_of events.now)) }
+{
+    let bodies = bodies(alloc, unit)?;
+    let declared = declared(alloc, events)?;
+    let defined = defined(alloc, events)?;
+    Ok(Functions {
+        bodies,
+        declared,
+        defined,
+    })
+}
+
 /// Adds what a unit says.
 fn add_facts<'a>(
     alloc: Global,
@@ -142,13 +162,8 @@ fn add_facts<'a>(
     ensures added { IfOk result (λ _. facts_of out.new.items ≡ facts_of out.old.items ++ s.facts_in number (unit_of unit.now)) }
 {
     let events = events(alloc, unit)?;
-    let functions = Functions {
-        bodies: bodies(alloc, unit)?,
-        declared: declared(alloc, &events)?,
-        defined: defined(alloc, &events)?,
-    };
-    add_said(number, &functions, &events, out)?;
-    Ok(())
+    let functions = functions_in(alloc, unit, &events)?;
+    add_said(number, &functions, &events, out)
 }
 
 /// What the units of a program say, file by file, in textual order.

@@ -1,50 +1,54 @@
 // What expressions, declarators and initialisers say.
-ghost use Rattle.std.specs.Prelude.{◌≡◌, ◌++◌, IfOk, map};
+ghost use Rattle.std.specs.Prelude.{◌≡◌, ◌++◌, IfOk, map, option_map, option_to_list};
 ghost use Rattle.std.specs.List.{flat_map};
 ghost use Rattle.c_type.specs.Of.{type_of};
 ghost use Rattle.c_join.specs.JoinSaid as s;
 ghost use Rattle.c_tree.specs.TypedOf.{ref_of, expr_of, option_of, declr_of, init_of, begin_of};
-ghost use Rattle.c_whole.specs.Events.{events_of, args_from, inits_from};
+ghost use Rattle.c_whole.specs.Events.{event_of, events_of, args_from, inits_from};
 
 use crate::said::{Event, Said, Whose};
 use c_tree::{Ref, TDeclr, TExpr, TInit};
 use c_type::CType;
 use std::alloc::AllocError;
 
-/// The name of a reference that is external or a function's, and what a use of it says.
-fn in_ref<'a>(ty: &'a CType, to: &'a Ref, out: &mut Vec<Event<'a>>) -> Result<(), AllocError>
-    ensures added { IfOk result (λ _. events_of out.new.items ≡ events_of out.old.items ++ s.in_ref (type_of ty.now) (ref_of to.now)) }
+/// What a use of a reference says, if it is external or a function.
+fn of_ref<'a>(ty: &'a CType, to: &'a Ref) -> Option<Event<'a>>
+    ensures { option_to_list (option_map event_of result) ≡ s.in_ref (type_of ty.now) (ref_of to.now) }
 {
     let (about, says) = match to {
         Ref::Ext(name) => (Whose::External(name.as_slice()), Said::Used),
         Ref::Func(k) => (Whose::Own(*k), Said::Named(ty)),
         Ref::Outer(name) => (Whose::Outer(name.as_slice()), Said::Named(ty)),
-        Ref::Local(_) | Ref::Param(_) | Ref::Static(_) | Ref::Const(_) => return Ok(()),
+        Ref::Local(_) | Ref::Param(_) | Ref::Static(_) | Ref::Const(_) => return None,
     };
-    out.push(Event { about, says })?;
-    Ok(())
+    Some(Event { about, says })
 }
 
-/// A call, if it is one by name.
-fn of_call<'a>(
-    called: &'a TExpr,
-    args: &'a [TExpr],
-    out: &mut Vec<Event<'a>>,
-) -> Result<(), AllocError>
-    ensures added { IfOk result (λ _. events_of out.new.items ≡ events_of out.old.items ++ s.of_call (expr_of called.now) (args_from args.now)) }
+/// What a call says, if it is one by name.
+fn of_call<'a>(called: &'a TExpr, args: &'a [TExpr]) -> Option<Event<'a>>
+    ensures { option_to_list (option_map event_of result) ≡ s.of_call (expr_of called.now) (args_from args.now) }
 {
     let TExpr::Name(_, to) = called else {
-        return Ok(());
+        return None;
     };
     let about = match to {
         Ref::Func(k) => Whose::Own(*k),
         Ref::Outer(name) => Whose::Outer(name.as_slice()),
-        _ => return Ok(()),
+        _ => return None,
     };
-    out.push(Event {
+    Some(Event {
         about,
         says: Said::Called(args),
-    })?;
+    })
+}
+
+/// Adds what is said, if anything is.
+pub fn add<'a>(event: Option<Event<'a>>, out: &mut Vec<Event<'a>>) -> Result<(), AllocError>
+    ensures added { IfOk result (λ _. events_of out.new.items ≡ events_of out.old.items ++ option_to_list (option_map event_of event.entry)) }
+{
+    if let Some(event) = event {
+        out.push(event)?;
+    }
     Ok(())
 }
 
@@ -63,8 +67,8 @@ pub fn in_expr<'a>(expr: &'a TExpr, out: &mut Vec<Event<'a>>) -> Result<(), Allo
     ensures added { IfOk result (λ _. events_of out.new.items ≡ events_of out.old.items ++ s.in_expr (expr_of expr.now)) }
 {
     match expr {
-        TExpr::Name(ty, to) => in_ref(ty, to, out)?,
-        TExpr::Int(_, _) | TExpr::Text(_, _) | TExpr::SizeOfType(_) => {}
+        TExpr::Name(ty, to) => add(of_ref(ty, to), out),
+        TExpr::Int(_, _) | TExpr::Text(_, _) | TExpr::SizeOfType(_) => Ok(()),
         TExpr::Unary(_, _, a)
         | TExpr::Deref(_, a)
         | TExpr::Address(_, a)
@@ -75,7 +79,7 @@ pub fn in_expr<'a>(expr: &'a TExpr, out: &mut Vec<Event<'a>>) -> Result<(), Allo
         | TExpr::Decay(_, a)
         | TExpr::Designate(_, a)
         | TExpr::Member(_, a, _)
-        | TExpr::Arrow(_, a, _) => in_expr(a, out)?,
+        | TExpr::Arrow(_, a, _) => in_expr(a, out),
         TExpr::Binary(_, _, a, b)
         | TExpr::Both(a, b)
         | TExpr::Either(a, b)
@@ -84,29 +88,28 @@ pub fn in_expr<'a>(expr: &'a TExpr, out: &mut Vec<Event<'a>>) -> Result<(), Allo
         | TExpr::Update(_, _, _, a, b)
         | TExpr::Index(_, a, b) => {
             in_expr(a, out)?;
-            in_expr(b, out)?
+            in_expr(b, out)
         }
         TExpr::Choice(_, test, a, b) => {
             in_expr(test, out)?;
             in_expr(a, out)?;
-            in_expr(b, out)?
+            in_expr(b, out)
         }
         TExpr::Call(_, called, args) => {
             in_expr(called, out)?;
-            of_call(called, args, out)?;
-            in_args(args, out)?
+            add(of_call(called, args), out)?;
+            in_args(args, out)
         }
     }
-    Ok(())
 }
 
 pub fn in_option<'a>(expr: &'a Option<TExpr>, out: &mut Vec<Event<'a>>) -> Result<(), AllocError>
     ensures added { IfOk result (λ _. events_of out.new.items ≡ events_of out.old.items ++ s.in_option (option_of expr.now)) }
 {
-    if let Some(expr) = expr {
-        in_expr(expr, out)?;
+    match expr {
+        Some(expr) => in_expr(expr, out),
+        None => Ok(()),
     }
-    Ok(())
 }
 
 /// The dimensions of a declarator.
@@ -143,19 +146,18 @@ fn in_init<'a>(init: &'a TInit, out: &mut Vec<Event<'a>>) -> Result<(), AllocErr
     ensures added { IfOk result (λ _. events_of out.new.items ≡ events_of out.old.items ++ s.in_init (init_of init.now)) }
 {
     match init {
-        TInit::Single(expr) => in_expr(expr, out)?,
-        TInit::Bytes(_) => {}
-        TInit::Group(inits) => in_inits(inits, out)?,
+        TInit::Single(expr) => in_expr(expr, out),
+        TInit::Bytes(_) => Ok(()),
+        TInit::Group(inits) => in_inits(inits, out),
     }
-    Ok(())
 }
 
 /// An initialiser that may be left out.
 pub fn in_begin<'a>(init: &'a Option<TInit>, out: &mut Vec<Event<'a>>) -> Result<(), AllocError>
     ensures added { IfOk result (λ _. events_of out.new.items ≡ events_of out.old.items ++ s.in_begin (begin_of init.now)) }
 {
-    if let Some(init) = init {
-        in_init(init, out)?;
+    match init {
+        Some(init) => in_init(init, out),
+        None => Ok(()),
     }
-    Ok(())
 }

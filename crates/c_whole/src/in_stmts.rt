@@ -34,29 +34,27 @@ fn declared<'a>(
         about,
         says: Said::Declared(&declr.ty),
     })?;
-    in_declr(declr, out)?;
-    Ok(())
+    in_declr(declr, out)
 }
 
 fn in_local<'a>(local: &'a TLocal, out: &mut Vec<Event<'a>>) -> Result<(), AllocError>
     ensures added { IfOk result (λ _. events_of out.new.items ≡ events_of out.old.items ++ s.in_local (local_of local.now)) }
 {
     match local {
-        TLocal::Auto(declr, _) => in_declr(declr, out)?,
+        TLocal::Auto(declr, _) => in_declr(declr, out),
         TLocal::AutoInit(declr, _, _, _, init) => {
             in_declr(declr, out)?;
-            in_expr(init, out)?
+            in_expr(init, out)
         }
         TLocal::Static(declr, _, init) => {
             in_declr(declr, out)?;
-            in_begin(init, out)?
+            in_begin(init, out)
         }
-        TLocal::Extern(declr) => declared(Whose::External(declr.name.as_slice()), declr, out)?,
+        TLocal::Extern(declr) => declared(Whose::External(declr.name.as_slice()), declr, out),
         TLocal::Function(declr, is_static) => {
-            declared(of_function(*is_static, declr.name.as_slice()), declr, out)?
+            declared(of_function(*is_static, declr.name.as_slice()), declr, out)
         }
     }
-    Ok(())
 }
 
 fn in_local_decl<'a>(decl: &'a TLocalDecl, out: &mut Vec<Event<'a>>) -> Result<(), AllocError>
@@ -107,36 +105,35 @@ fn in_stmt<'a>(stmt: &'a TStmt, out: &mut Vec<Event<'a>>) -> Result<(), AllocErr
     ensures added { IfOk result (λ _. events_of out.new.items ≡ events_of out.old.items ++ s.in_stmt (stmt_of stmt.now)) }
 {
     match stmt {
-        TStmt::Expr(_, _, expr) => in_expr(expr, out)?,
-        TStmt::Empty(_, _) | TStmt::Break(_, _) | TStmt::Continue(_, _) => {}
-        TStmt::Return(_, _, value) => in_option(value, out)?,
+        TStmt::Expr(_, _, expr) => in_expr(expr, out),
+        TStmt::Empty(_, _) | TStmt::Break(_, _) | TStmt::Continue(_, _) => Ok(()),
+        TStmt::Return(_, _, value) => in_option(value, out),
         TStmt::IfOnly(_, _, test, body) | TStmt::While(_, _, test, body) => {
             in_expr(test, out)?;
-            in_stmt(body, out)?
+            in_stmt(body, out)
         }
         TStmt::IfElse(_, _, test, then, otherwise) => {
             in_expr(test, out)?;
             in_stmt(then, out)?;
-            in_stmt(otherwise, out)?
+            in_stmt(otherwise, out)
         }
         TStmt::Do(_, _, body, test) => {
             in_stmt(body, out)?;
-            in_expr(test, out)?
+            in_expr(test, out)
         }
         TStmt::For(_, _, first, test, step, body) => {
             in_option(first, out)?;
             in_option(test, out)?;
             in_option(step, out)?;
-            in_stmt(body, out)?
+            in_stmt(body, out)
         }
         TStmt::Switch(_, _, value, items) => {
             in_expr(value, out)?;
-            in_items(items, out)?
+            in_items(items, out)
         }
         TStmt::Block(block) => {
             in_locals(&block.locals, out)?;
-            in_stmts(&block.stmts, out)?
+            in_stmts(&block.stmts, out)
         }
     }
-    Ok(())
 }

@@ -6,7 +6,7 @@ ghost use Rattle.c_join.specs.JoinSaid as s;
 ghost use Rattle.c_tree.specs.TypedOf.{begin_of, enumerator_of, spec_of, typed_item_of, par_of, func_of, ext_of, unit_of};
 ghost use Rattle.c_whole.specs.Events.{events_of, mems_from, event_of};
 
-use crate::in_exprs::{in_begin, in_declr, in_declrs, in_option};
+use crate::in_exprs::{add, in_begin, in_declr, in_declrs, in_option};
 use crate::in_stmts::{in_locals, in_stmts, of_function};
 use crate::said::{Event, Said, Whose};
 use c_tree::{Bound, TEnumerator, TExt, TFunc, TItem, TMembers, TParDecl, TSpec, TypedUnit};
@@ -40,11 +40,10 @@ fn in_spec<'a>(spec: &'a TSpec, out: &mut Vec<Event<'a>>) -> Result<(), AllocErr
     ensures added { IfOk result (λ _. events_of out.new.items ≡ events_of out.old.items ++ s.in_spec (spec_of spec.now)) }
 {
     match spec {
-        TSpec::Plain(_) => {}
-        TSpec::Struct(_, mems) => in_mems(mems, out)?,
-        TSpec::Enum(_, enumerators) => in_enumerators(enumerators, out)?,
+        TSpec::Plain(_) => Ok(()),
+        TSpec::Struct(_, mems) => in_mems(mems, out),
+        TSpec::Enum(_, enumerators) => in_enumerators(enumerators, out),
     }
-    Ok(())
 }
 
 /// What a declarator at file level says of its own name, if that is external or a function's.
@@ -66,12 +65,9 @@ fn said(item: &TItem) -> Option<Event<'_>>
 fn in_item<'a>(item: &'a TItem, out: &mut Vec<Event<'a>>) -> Result<(), AllocError>
     ensures added { IfOk result (λ _. events_of out.new.items ≡ events_of out.old.items ++ s.in_item (typed_item_of item.now)) }
 {
-    if let Some(event) = said(item) {
-        out.push(event)?;
-    }
+    add(said(item), out)?;
     in_declr(&item.declr, out)?;
-    in_begin(&item.init, out)?;
-    Ok(())
+    in_begin(&item.init, out)
 }
 
 fn in_file_items<'a>(items: &'a [TItem], out: &mut Vec<Event<'a>>) -> Result<(), AllocError>
@@ -107,11 +103,10 @@ fn defined(func: &TFunc) -> Event<'_>
 fn in_func<'a>(func: &'a TFunc, out: &mut Vec<Event<'a>>) -> Result<(), AllocError>
     ensures added { IfOk result (λ _. events_of out.new.items ≡ events_of out.old.items ++ s.in_func (func_of func.now)) }
 {
-    out.push(defined(func))?;
+    add(Some(defined(func)), out)?;
     in_pars(&func.declared, out)?;
     in_locals(&func.body.locals, out)?;
-    in_stmts(&func.body.stmts, out)?;
-    Ok(())
+    in_stmts(&func.body.stmts, out)
 }
 
 fn in_ext<'a>(ext: &'a TExt, out: &mut Vec<Event<'a>>) -> Result<(), AllocError>
@@ -120,19 +115,18 @@ fn in_ext<'a>(ext: &'a TExt, out: &mut Vec<Event<'a>>) -> Result<(), AllocError>
     match ext {
         TExt::Typedef(spec, declrs) => {
             in_spec(spec, out)?;
-            in_declrs(declrs, out)?
+            in_declrs(declrs, out)
         }
-        TExt::TagOnly(spec) => in_spec(spec, out)?,
+        TExt::TagOnly(spec) => in_spec(spec, out),
         TExt::Object(spec, items) => {
             in_spec(spec, out)?;
-            in_file_items(items, out)?
+            in_file_items(items, out)
         }
         TExt::Func(spec, func) => {
             in_spec(spec, out)?;
-            in_func(func, out)?
+            in_func(func, out)
         }
     }
-    Ok(())
 }
 
 /// What the unit says, in textual order.

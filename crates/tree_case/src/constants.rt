@@ -1,4 +1,3 @@
-#![tactic(none)]
 // Typed expressions built by hand, as the checker makes them of the texts in the comments.
 use c_constant::{constant, is_known, is_zero, place_spot, pointer_spot};
 use c_tree::{Ref, TBinary, TExpr};
@@ -32,7 +31,6 @@ fn value(
 type Rows<'a> = &'a [(TBinary, Kind, u32, u32, Option<u32>)];
 
 /// The first row that gives something else.
-#[tactic(auto)]
 fn first_other(alloc: Global, rows: Rows<'_>) -> Result<Option<usize>, AllocError> {
     for (at, (op, kind, x, y, wanted)) in rows.iter().enumerate() {
         if value(alloc, *op, *kind, *x, *y)? != *wanted {
@@ -56,7 +54,6 @@ fn quotient_is_zero(alloc: Global) -> Result<bool, AllocError> {
 }
 
 #[test]
-#[tactic(auto)]
 fn what_traps_is_no_constant(rt: HostRuntime) -> Result<(), Fail> {
     assert_eq!(rt; first_other(rt.alloc(), &TRAPS)?, None);
     assert!(rt; quotient_is_zero(rt.alloc())?);
@@ -72,7 +69,6 @@ const SIGNS: [(TBinary, Kind, u32, u32, Option<u32>); 4] = [
 ];
 
 #[test]
-#[tactic(auto)]
 fn signed_operands_are_read_with_their_sign(rt: HostRuntime) -> Result<(), Fail> {
     assert_eq!(rt; first_other(rt.alloc(), &SIGNS)?, None);
     Ok(())
@@ -117,7 +113,6 @@ fn is_place(alloc: Global, n: u32) -> Result<bool, AllocError> {
 }
 
 #[test]
-#[tactic(auto)]
 fn the_end_of_an_array_is_the_last_spot_in_it(rt: HostRuntime) -> Result<(), Fail> {
     let alloc = rt.alloc();
     assert_eq!(rt; offset(alloc, 3)?, Some(12));

@@ -1,4 +1,3 @@
-#![tactic(none)]
 // The lines of the starts of a file, in a program built by hand.
 ghost use Rattle.std.specs.Prelude.{◌≡◌, IfOk, length};
 
@@ -56,7 +55,6 @@ fn unit(alloc: Global) -> Result<TypedUnit, AllocError> {
 }
 
 /// The program of one unit.
-#[tactic(auto)]
 fn program(alloc: Global, unit: TypedUnit) -> Result<Program, AllocError>
     ensures one_file { IfOk result (λ p. length p.units.items ≡ 1) }
 {
@@ -69,7 +67,6 @@ fn program(alloc: Global, unit: TypedUnit) -> Result<Program, AllocError>
 }
 
 #[test]
-#[tactic(auto)]
 fn a_for_has_three_starts(rt: HostRuntime) -> Result<(), Fail> {
     let unit = unit(rt.alloc())?;
     let p = program(rt.alloc(), unit)?;

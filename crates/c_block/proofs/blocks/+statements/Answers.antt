@@ -17,12 +17,12 @@ use Rattle.c_scope.specs.EnvOf.{env_of}
 use Rattle.c_scope.specs.declared.error.TypeErr.{TypeErr}
 use Rattle.c_rule.specs.Judging.{Behind, behind, judged_decls, judged_stmt, judged_stmts, judged_items}
 use Rattle.c_scope.specs.Says.{Refused, SaysBehind}
-use Rattle.c_value.specs.Boxed.{boxed}
-use Rattle.c_block.specs.Boxed.{boxed_stmt}
+use Rattle.c_operator.specs.Boxed.{boxed}
+use Rattle.c_local.specs.Boxed.{boxed_stmt}
 use Rattle.c_block.specs.PlaceOf.{place_of}
 use Rattle.c_block.specs.SwitchParts.{put, part_of, judged_part}
-use Rattle.c_block.proofs.FromHere.{from_here}
-use Rattle.c_block.proofs.Lists.{none_before, next_part, part_refused, all_parts, err_judged}
+use Rattle.c_local.proofs.FromHere.{from_here}
+use Rattle.c_local.proofs.Lists.{none_before, next_part, part_refused, all_parts, err_judged}
 use Rattle.c_block.proofs.Outside.{left_block, decls_refused, stmts_refused}
 use Rattle.c_block.proofs.StatementRows.{stmt_row, stmts_end, onto_stmts, part_row, parts_end, onto_items, source_switch, switch_is, switch_row}
 use Rattle.c_block.proofs.blocks.+statements.Goals as goal

@@ -7,7 +7,7 @@ use Rattle.c_scope.specs.EnvOf.{env_of}
 use Rattle.c_rule.specs.Judging.{judged_stmts, judged_items}
 use Rattle.c_block.specs.PlaceOf.{place_of}
 use Rattle.c_block.specs.SwitchParts.{put, part_of}
-use Rattle.c_block.proofs.Lists.{with_parts}
+use Rattle.c_local.proofs.Lists.{with_parts}
 use Rattle.c_block.proofs.blocks.+statements.Given as goal
 
 abbrev pub invariant-statements-loop-part : goal.invariant-statements-loop-part

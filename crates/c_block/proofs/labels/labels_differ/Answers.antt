@@ -4,7 +4,7 @@ use Rattle.std.specs.List.{list_any}
 use Rattle.c_tree.specs.declared.typed_stmt.TSwItem.{TSwItem}
 use Rattle.c_tree.specs.declared.typed_stmt.TSwItem.TheVariants.{Default}
 use Rattle.c_tree.specs.TypedOf.{item_of, items_from}
-use Rattle.c_block.proofs.FromHere.{from_here}
+use Rattle.c_local.proofs.FromHere.{from_here}
 use Rattle.c_block.proofs.LabelsDiffer.{left_differ, at_last, past_stmt, past_default, past_case, second_case}
 use Rattle.c_block.proofs.labels.labels_differ.Goals.{in-Case+in_ok-insert-in-Case+else-not-branch, in-Default+else-has_default, in-Stmt}
 use Rattle.c_block.proofs.labels.labels_differ.Goals as goal

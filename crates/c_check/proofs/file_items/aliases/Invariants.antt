@@ -5,7 +5,7 @@ use Rattle.c_tree.specs.TreeOf as u
 use Rattle.c_tree.specs.TypedOf.{declr_of}
 use Rattle.c_scope.specs.EnvOf.{env_of}
 use Rattle.c_rule.specs.JudgingUnit as j
-use Rattle.c_block.proofs.Lists.{with_parts}
+use Rattle.c_local.proofs.Lists.{with_parts}
 use Rattle.c_check.proofs.file_items.aliases.Given as goal
 
 abbrev pub invariant-loop-declr : goal.invariant-loop-declr

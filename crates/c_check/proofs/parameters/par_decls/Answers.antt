@@ -12,8 +12,8 @@ use Rattle.c_scope.specs.declared.error.TypeErr.{TypeErr}
 use Rattle.c_scope.specs.EnvOf.{env_of}
 use Rattle.c_rule.specs.Judging.{Behind}
 use Rattle.c_rule.specs.JudgingUnit as j
-use Rattle.c_block.proofs.Lists.{in_front, onto_list, err_judged}
-use Rattle.c_check.proofs.InOrder.{first, next, refused, last}
+use Rattle.c_local.proofs.Lists.{in_front, onto_list, err_judged}
+use Rattle.c_tag.proofs.InOrder.{first, next, refused, last}
 use Rattle.c_check.proofs.Rows.{par_decl_row}
 use Rattle.c_check.proofs.parameters.par_decls.Goals as goal
 

@@ -4,7 +4,7 @@ use Rattle.c_tree.specs.TreeOf as u
 use Rattle.c_tree.specs.TypedOf.{ext_of}
 use Rattle.c_scope.specs.EnvOf.{env_of}
 use Rattle.c_rule.specs.JudgingUnit as j
-use Rattle.c_block.proofs.Lists.{with_parts}
+use Rattle.c_local.proofs.Lists.{with_parts}
 use Rattle.c_check.proofs.units.exts.Given as goal
 
 abbrev pub invariant-loop-part : goal.invariant-loop-part

@@ -2,11 +2,11 @@ use Rattle.std.proofs.Common.{◌+◌, ◌-◌, length, Some, arith, ap, sym, �
 use Rattle.c_grammar.specs.Words.{close_brace}
 use Rattle.c_tree.specs.TreeStmt as tree
 use Rattle.c_tree.specs.TreeOf.{expr_of, stmt_of, sw_item_of, sw_items_from}
-use Rattle.c_tree.proofs.Of.{stmt_of-Block, stmt_of-Switch}
+use Rattle.c_tree.proofs.Of.{stmt_of-Block}
 use Rattle.c_decl.specs.Answers.{rest}
 use Rattle.c_parse.specs.Words as w
 use Rattle.c_parse.proofs.Pushed.{with_front, is_eaten, is_not_eaten, stmts_turn, stmts_end, items_turn, items_end}
-use Rattle.c_parse.proofs.Switches.{switch_read}
+use Rattle.c_parse.proofs.Switches.{gives_same, switch_read}
 use Rattle.c_parse.proofs.statements.+stmts.Goals as goal
 
 pub stmts-returns-then-is_some : goal.stmts-returns-then-is_some
@@ -47,6 +47,5 @@ block_stmt-returns t c = rw c.in_ok-block.ensures (ap (λ y. Some (y, rest c.arg
 pub switch_stmt-returns : goal.switch_stmt-returns
 switch_stmt-returns t c =
     let r = c.args.r.now in
-    switch_read r c.args.depth c.args.line (rest r c.args.at) (rest r c.in_ok-value.brace) (rest r c.in_ok-body.body) (rest r c.in_ok-list.close) (rest r c.in_ok-after.after) (expr_of c.in_ok-value.value) (sw_items_from c.in_ok-list.list.items)
-    c.in_ok-value.ensures c.in_ok-body.ensures.place c.in_ok-list.ensures c.in_ok-after.ensures.place
-    ∙ ap (λ y. Some (y, rest r c.in_ok-after.after)) (sym (stmt_of-Switch c.args.line c.in_ok-value.value c.in_ok-list.list))
+    gives_same _ c.switch_end.result _ _ (sym (switch_read r c.args.depth c.args.line (rest r c.args.at) (rest r c.in_ok-value.body) (rest r c.in_ok-list.close) (expr_of c.in_ok-value.value) (sw_items_from c.in_ok-list.list.items)
+    c.in_ok-value.ensures c.in_ok-list.ensures)) c.switch_end.ensures

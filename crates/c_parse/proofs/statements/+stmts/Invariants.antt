@@ -10,7 +10,10 @@ abbrev pub decreases-stmt : goal.decreases-stmt
 decreases-stmt l = 4 * l.depth
 
 abbrev pub decreases-if_stmt : goal.decreases-if_stmt
-decreases-if_stmt l = 4 * l.depth + 1
+decreases-if_stmt l = 4 * l.depth + 2
+
+abbrev pub decreases-else_stmt : goal.decreases-else_stmt
+decreases-else_stmt l = 4 * l.depth + 1
 
 abbrev pub decreases-while_stmt : goal.decreases-while_stmt
 decreases-while_stmt l = 4 * l.depth + 1

@@ -13,7 +13,7 @@ use Rattle.c_scope.specs.declared.error.TypeErr.TheVariants.{Memory}
 use Rattle.c_scope.specs.EnvOf.{env_of}
 use Rattle.c_rule.specs.Judging.{judged_args}
 use Rattle.c_scope.specs.Says.{Refused, Says}
-use Rattle.c_value.specs.Boxed.{boxed}
+use Rattle.c_operator.specs.Boxed.{boxed}
 use Rattle.c_value.specs.Arguments.{args_from, name_in, judged_call}
 use Rattle.c_value.proofs.Arms.{rules_comma, rules_assign, rules_binary, rules_index, rules_unary, rules_size_of, rules_member, rules_arrow, rules_post, one_judged, one_refused, one_past, two_judged, two_first, two_second, two_past, leaf_judged, leaf_past, cast_judged, cast_untyped, cast_refused, cast_past, choice_judged, choice_first, choice_second, choice_third, choice_past}
 use Rattle.c_value.proofs.Calls.{with_args, named_judged, named_refused, named_past, other_judged, other_refused, other_past}

@@ -6,7 +6,7 @@ use Rattle.c_tree.specs.TExpr as e
 use Rattle.c_tree.specs.TypedOf.{expr_of}
 use Rattle.c_rule.specs.RuleExprs as r
 use Rattle.c_value.specs.Arguments.{args_from}
-use Rattle.c_value.specs.Boxed.{boxed}
+use Rattle.c_operator.specs.Boxed.{boxed}
 use Rattle.c_value.proofs.Outcomes.{expr_of-Call}
 use Rattle.c_value.proofs.expressions.called_with.Goals as goal
 

@@ -12,7 +12,7 @@ pub invariant_of-self-2 : goal.invariant_of-self-2
 invariant_of-self-2 c =
     let fs : List Body = c.args.self.now.list.items in
     let f : Body = record { name = c.args.name; is_static = false } in
-    let pushed : map body_of fs ++ body_of f ∷ [] ≡ map body_of c.push.new.self.items = search (rules, map-append) in
+    let pushed : map body_of fs ++ body_of f ∷ [] ≡ map body_of c.push_reserved.new.self.items = search (rules, map-append) in
     let number : c.in_ok-number.number ≡ length (map body_of fs) = (let e : c.in_ok-number.number ≡ length fs = search rules in e) ∙ sym (length-map fs body_of) in
     let bytes : c.as_slice.result.now ≡ c.args.name = search rules in
     record {

@@ -13,7 +13,7 @@ invariant_of-self-2 c = record {
   indexed = λ x.
       let hs : List Head = c.args.self.now.list.items in
       let h : Head = record { name = c.args.name; kind = c.args.kind; line = c.args.line } in
-      let pushed : hs ++ h ∷ [] ≡ c.push.new.self.items = search rules in
+      let pushed : hs ++ h ∷ [] ≡ c.push_reserved.new.self.items = search rules in
       let number : c.in_ok-number.number ≡ length (map head_of hs) = (let e : c.in_ok-number.number ≡ length hs = search rules in e) ∙ sym (length-map hs head_of) in
       let bytes : c.as_slice.result.now ≡ c.args.name = search rules in
       c.in_ok-insert_first.ensures.first x ∙ ap (λ o. or_else o (pick (bytes_eq x c.as_slice.result.now) (Some (c.in_ok-number.number, c.args.kind)) None)) (c.args.self.now.indexed x) ∙

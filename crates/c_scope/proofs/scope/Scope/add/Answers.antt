@@ -4,7 +4,7 @@ use Rattle.c_type.specs.Names.{pick}
 use Rattle.c_scope.specs.declared.scope.Entry.{Entry}
 use Rattle.c_scope.specs.Entries.{entries_of}
 use Rattle.c_scope.specs.Places.{place_of}
-use Rattle.c_scope.proofs.Indexed.{at_inserted, at_bytes}
+use Rattle.c_scope.proofs.Indexed.{at_bytes}
 use Rattle.c_scope.proofs.Entered.{entered, entries_length}
 use Rattle.c_scope.proofs.scope.Scope.add.Goals as goal
 
@@ -13,13 +13,10 @@ invariant_of-self-2 c = record {
   indexed = λ x.
       let es : List Entry = c.args.self.now.entries.items in
       let e : Entry = record { name = c.args.name; meaning = c.args.meaning } in
-      let pushed : es ++ e ∷ [] ≡ c.push.new.self.items = search rules in
-      let key : c.in_ok-key.key.items ≡ c.args.name = search rules in
-      let place : c.len-place.result ≡ length (entries_of es) = (let e : c.len-place.result ≡ length es = search rules in e) ∙ sym (entries_length es) in
-      ap (λ l. at_bytes (λ k. k.items) l x) c.in_ok-insert.ensures.entries ∙
-      at_inserted (λ k. k.items) c.args.self.now.index.entries c.in_ok-key.key c.len-place.result x ∙
-      ap (λ n. pick (bytes_eq x n) (Some c.len-place.result) (at_bytes (λ k. k.items) c.args.self.now.index.entries x)) key ∙
-      ap (λ n. pick (bytes_eq x c.args.name) (Some n) (at_bytes (λ k. k.items) c.args.self.now.index.entries x)) place ∙
+      let pushed : es ++ e ∷ [] ≡ c.push_reserved.new.self.items = search rules in
+      let bytes : c.as_slice.result.now ≡ c.args.name = search rules in
+      c.in_ok-lead_to_next.ensures.led x ∙ ap (λ n. pick (bytes_eq x n) (Some (length es)) (at_bytes (λ k. k.items) c.args.self.now.index.entries x)) bytes ∙
+      ap (λ n. pick (bytes_eq x c.args.name) (Some n) (at_bytes (λ k. k.items) c.args.self.now.index.entries x)) (sym (entries_length es)) ∙
       ap (pick (bytes_eq x c.args.name) (Some (length (entries_of es)))) (c.args.self.now.indexed x) ∙
       sym (ap (place_of x) (entered es e)) ∙ ap (λ l. place_of x (entries_of l)) pushed;
 }

@@ -1,0 +1,33 @@
+use Rattle.std.proofs.Common.{◌≡◌, ◌+◌, ◌-◌, suc, sym, ◌∙◌, arith}
+use Rattle.std.proofs.lemmas.Result.{err_from_is_err_and}
+use Rattle.c_tree.specs.TreeOf.{expr_of}
+use Rattle.c_expr.specs.Parts.{names}
+use Rattle.c_expr.specs.Shown.{left, shown}
+use Rattle.c_grammar.specs.Words.{binary_level}
+use Rattle.c_expr.proofs.Turns.{fails_along, passed, refused, climb-turn, climb-none, climb-end, climb-over}
+use Rattle.c_expr.proofs.productions.Productions.climb.Goals as goal
+
+pub returns-in_default : goal.returns-in_default
+returns-in_default g c = λ inner read.
+    sym (c.loop-turn.invariant inner read)
+    ∙ climb-end (names c.args.self.now.reader) 200 inner (201 - c.loop-turn._turn) (201 - (c.loop-turn._turn + 1)) c.args.line c.args.level (expr_of c.loop-turn.found.tree) (left c.loop-turn.found.rest) (omega (arith, c.loop-turn-test.true)) c.in_default.ensures
+
+pub returns-in_err-found : goal.returns-in_err-found
+returns-in_err-found g c = λ inner read.
+    let level : c.binary_level.result + 1 ≡ suc (binary_level c.in-Some.op) = omega (arith, c.binary_level.ensures.value) in
+    let p = err_from_is_err_and c.from_residual.result c.from_residual.ensures.1 in
+    passed shown c.from_residual.result _ c.in_err-found.field-0.0 p.0 p.1 p.2
+    (fails_along c.in_err-found.field-0.0 _ _ (λ none. sym (c.loop-turn.invariant inner read)
+    ∙ climb-none (names c.args.self.now.reader) 200 inner (201 - c.loop-turn._turn) (201 - (c.loop-turn._turn + 1)) c.args.line c.args.level (c.binary_level.result + 1) (expr_of c.loop-turn.found.tree) (left c.loop-turn.found.rest) (c.in-Some.op, left c.in-Some.after) (omega (arith, c.loop-turn-test.true)) level c.in-Some.ensures none) (c.in_err-found.ensures inner read))
+
+pub loop-turn-preserved : goal.loop-turn-preserved
+loop-turn-preserved g c = λ inner read.
+    let level : c.binary_level.result + 1 ≡ suc (binary_level c.in-Some.op) = omega (arith, c.binary_level.ensures.value) in
+    sym (climb-turn (names c.args.self.now.reader) 200 inner (201 - c.loop-turn._turn) (201 - (c.loop-turn._turn + 1)) c.args.line c.args.level (c.binary_level.result + 1) (expr_of c.loop-turn.found.tree) (left c.loop-turn.found.rest) (c.in-Some.op, left c.in-Some.after) (shown c.in_ok-found.found)
+    (omega (arith, c.loop-turn-test.true)) level c.in-Some.ensures (c.in_ok-found.ensures inner read))
+    ∙ c.loop-turn.invariant inner read
+
+pub returns : goal.returns
+returns g c = λ inner read.
+    refused c.refusal.result _ c.refusal.ensures (sym (c.loop-turn.invariant inner read)
+    ∙ climb-over (names c.args.self.now.reader) 200 inner (201 - c.loop-turn._turn) c.args.line c.args.level (expr_of c.loop-turn.found.tree) (left c.loop-turn.found.rest) (omega (arith, c.loop-turn-test.false)))

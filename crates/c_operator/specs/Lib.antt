@@ -1,0 +1,4 @@
+pub mod Taken
+pub mod Boxed
+pub mod OfValues
+pub mod MemberOf

@@ -1,0 +1,4 @@
+pub mod InOrder
+pub mod Passed
+pub mod TagBodies
+pub mod TagRows
