@@ -1,9 +1,10 @@
 // The typed main of a unit of the small form.
-ghost use Rattle.std.specs.Prelude.{◌≡◌, ◌≤◌, ◌<◌, ◌+◌, ◌++◌, ◌&&◌, map, length, OnOk, MatchResult, IfOk, Some, true, false};
+ghost use Rattle.std.specs.Prelude.{◌≡◌, ◌≤◌, ◌<◌, ◌+◌, ◌++◌, ◌&&◌, map, length, OnOk, MatchResult, IfOk, Some, true, false, option_map};
 ghost use Rattle.std.specs.List.{list_all};
 ghost use Rattle.c_type.specs.Of.{type_of};
 ghost use Rattle.c_type.specs.Types.{num};
 ghost use Rattle.c_type.specs.declared.Kind.TheVariants.{Int};
+ghost use Rattle.c_tree.specs.TExpr.{name, Local};
 ghost use Rattle.c_tree.specs.TreeOf as u;
 ghost use Rattle.c_tree.specs.TypedOf as t;
 ghost use Rattle.c_tree.specs.TreeDecl.{declared};
@@ -130,14 +131,18 @@ fn sum(alloc: Global, variables: &NameSet, e: &Expr) -> Result<TExpr, Fault>
     }
 }
 
-// The name on the left of an assignment.
-fn target(variables: &NameSet, e: &Expr) -> Result<TExpr, Fault>
+// The number of the variable on the left of an assignment.
+#[tactic(auto, using(crate::proofs::SmallTrees::place_below))]
+fn target(variables: &NameSet, e: &Expr) -> Result<u32, Fault>
     requires { length variables.now ≤ 131072 }
-    ensures { Gives t.expr_of result (s.variable_in variables.now (u.expr_of e.now)) }
+    ensures { Gives (λ i. name (num Int) (Local i)) result (s.variable_in variables.now (u.expr_of e.now)) }
 {
-    match e {
-        Expr::Name(_, x) => variable(variables, x),
-        _ => Err(Fault::Unbuilt),
+    let Expr::Name(_, x) = e else {
+        return Err(Fault::Unbuilt);
+    };
+    match variables.place(x) {
+        Some(i) => Ok(i as u32),
+        None => Err(Fault::Unbuilt),
     }
 }
 
@@ -178,12 +183,13 @@ fn argument(alloc: Global, variables: &NameSet, es: &[Expr]) -> Result<TExpr, Fa
     sum(alloc, variables, &es[0])
 }
 
-// The tree of an assignment.
-fn assigned(alloc: Global, target: TExpr, value: TExpr) -> Result<TExpr, Fault>
-    ensures { Gives t.expr_of result (s.assigned (Some (t.expr_of target)) (Some (t.expr_of value))) }
+// The tree of an assignment to the variable of that number.
+fn assigned(alloc: Global, number: u32, value: TExpr) -> Result<TExpr, Fault>
+    ensures { Gives t.expr_of result (s.assigned (s.variable (Some number)) (Some (t.expr_of value))) }
 {
-    let target = Box::new(alloc, target)?;
-    Ok(TExpr::Assign(int(), target, Box::new(alloc, value)?))
+    let value = Box::new(alloc, value)?;
+    let target = Box::new(alloc, TExpr::Name(int(), Ref::Local(number)))?;
+    Ok(TExpr::Assign(int(), target, value))
 }
 
 // `name = E`.
@@ -191,9 +197,9 @@ fn assignment(alloc: Global, variables: &NameSet, a: &Expr, b: &Expr) -> Result<
     requires { length variables.now ≤ 131072 }
     ensures { Gives t.expr_of result (s.assigned (s.variable_in variables.now (u.expr_of a.now)) (s.sum_in variables.now (u.expr_of b.now))) }
 {
-    let target = target(variables, a)?;
+    let number = target(variables, a)?;
     let value = sum(alloc, variables, b)?;
-    assigned(alloc, target, value)
+    assigned(alloc, number, value)
 }
 
 // `putchar ( E )`.
@@ -236,6 +242,32 @@ fn check_line(line: u32) -> Result<(), Fault>
     }
 }
 
+// A sum on a line that is small enough.
+fn sum_at(alloc: Global, variables: &NameSet, line: u32, e: &Expr) -> Result<TExpr, Fault>
+    requires { length variables.now ≤ 131072 }
+    ensures { Gives t.expr_of result (s.at_line line (s.sum_in variables.now (u.expr_of e.now))) }
+{
+    check_line(line)?;
+    sum(alloc, variables, e)
+}
+
+// What a statement does, on a line that is small enough.
+fn action_at(alloc: Global, variables: &NameSet, line: u32, e: &Expr) -> Result<TExpr, Fault>
+    requires { length variables.now ≤ 131072 }
+    ensures { Gives t.expr_of result (s.at_line line (s.action_in variables.now (u.expr_of e.now))) }
+{
+    check_line(line)?;
+    action(alloc, variables, e)
+}
+
+// The tree of a loop.
+fn looped(alloc: Global, start: u32, line: u32, e: TExpr, body: TStmt) -> Result<TStmt, Fault>
+    ensures { Gives t.stmt_of result (s.looped start line (Some (t.expr_of e)) (Some (t.stmt_of body))) }
+{
+    let body = Box::new(alloc, body)?;
+    Ok(TStmt::While(start, line, e, body))
+}
+
 #[cycle(stmts)]
 fn stmts(
     alloc: Global,
@@ -266,21 +298,18 @@ fn stmt(alloc: Global, variables: &NameSet, next: &mut u32, one: &Stmt) -> Resul
     let start = *next;
     match one {
         Stmt::Expr(line, e) => {
-            check_line(*line)?;
-            let e = action(alloc, variables, e)?;
+            let e = action_at(alloc, variables, *line, e)?;
             *next += 1;
             Ok(TStmt::Expr(start, *line, e))
         }
         Stmt::While(line, e, body) => {
-            check_line(*line)?;
-            let e = sum(alloc, variables, e)?;
+            let e = sum_at(alloc, variables, *line, e)?;
             *next += 1;
             let body = stmt(alloc, variables, next, body)?;
-            Ok(TStmt::While(start, *line, e, Box::new(alloc, body)?))
+            looped(alloc, start, *line, e, body)
         }
         Stmt::Return(line, Some(e)) => {
-            check_line(*line)?;
-            let e = sum(alloc, variables, e)?;
+            let e = sum_at(alloc, variables, *line, e)?;
             *next += 1;
             Ok(TStmt::Return(start, *line, Some(e)))
         }
@@ -445,6 +474,41 @@ fn is_plain_body(names: &[Name], block: &Block) -> bool
     is_line(block.line) && is_line(block.close_line) && are_plain(&block.decls) && are_free(names)
 }
 
+// The function main with these statements, the last start of which is before `close`.
+fn main_with(alloc: Global, block: &Block, stmts: Vec<TStmt>, close: u32) -> Result<TFunc, Fault>
+    requires few { length (s.names_in (u.block_of block.now).decls) ≤ 131072 }
+    requires close { close ≡ 1 + s.stmts_starts (u.block_of block.now).stmts }
+    ensures typed { Gives t.func_of result (Some (s.main_with (u.block_of block.now) (t.stmts_from stmts.items))) }
+{
+    let locals = decls(alloc, &block.decls)?;
+    Ok(TFunc {
+        name: Name::of(alloc, b"main")?,
+        is_static: false,
+        result: int(),
+        params: Vec::new(alloc),
+        declared: Vec::new(alloc),
+        open: 0,
+        body: TBlock {
+            line: block.line,
+            locals,
+            stmts,
+            close_line: block.close_line,
+        },
+        close,
+    })
+}
+
+// The function main of a body with these variables.
+fn with_variables(alloc: Global, variables: &NameSet, block: &Block) -> Result<TFunc, Fault>
+    requires variables { variables.now ≡ s.names_in (u.block_of block.now).decls }
+    requires counted { s.body_size (u.block_of block.now) ≤ 131000 }
+    ensures typed { Gives t.func_of result (option_map (s.main_with (u.block_of block.now)) (s.stmts_in variables.now 1 (u.block_of block.now).stmts)) }
+{
+    let mut next = 1;
+    let stmts = stmts(alloc, variables, &mut next, &block.stmts)?;
+    main_with(alloc, block, stmts, next)
+}
+
 fn body(alloc: Global, block: &Block) -> Result<TFunc, Fault>
     requires counted { s.body_size (u.block_of block.now) ≤ 131000 }
     ensures typed { Gives t.func_of result (s.body_in (u.block_of block.now)) }
@@ -456,23 +520,7 @@ fn body(alloc: Global, block: &Block) -> Result<TFunc, Fault>
     let Some(variables) = NameSet::of(alloc, &names)? else {
         return Err(Fault::Unbuilt);
     };
-    let mut next = 1;
-    let stmts = stmts(alloc, &variables, &mut next, &block.stmts)?;
-    Ok(TFunc {
-        name: Name::of(alloc, b"main")?,
-        is_static: false,
-        result: int(),
-        params: Vec::new(alloc),
-        declared: Vec::new(alloc),
-        open: 0,
-        body: TBlock {
-            line: block.line,
-            locals: decls(alloc, &block.decls)?,
-            stmts,
-            close_line: block.close_line,
-        },
-        close: next,
-    })
+    with_variables(alloc, &variables, block)
 }
 
 fn is_main(declr: &Declr) -> bool
