@@ -40,6 +40,20 @@ pub fn if_else(
     ensures { Gives (found stmt_of r.now) result (Some (t.if_else line (expr_of test) (stmt_of yes) (stmt_of other), rest r.now at)) }
 {
     let yes = Box::new(r.alloc, yes)?;
+    with_other(r, line, test, yes, other, at)
+}
+
+// A function of its own, so that few trees are dropped at each exit.
+fn with_other(
+    r: &Reader<'_>,
+    line: u32,
+    test: Expr,
+    yes: Box<Stmt>,
+    other: Stmt,
+    at: usize,
+) -> Result<(Stmt, usize), ParseErr>
+    ensures { Gives (found stmt_of r.now) result (Some (t.if_else line (expr_of test) (stmt_of yes.value) (stmt_of other), rest r.now at)) }
+{
     let other = Box::new(r.alloc, other)?;
     Ok((Stmt::IfElse(line, test, yes, other), at))
 }
